@@ -1,0 +1,28 @@
+-- The definitions give each row of the table.
+-- Assumes nothing.
+use mathlib.Core.Path.{_≡_, refl}
+use mathlib.Core.List.{[], _∷_, map}
+use Rattle.words.specs.Ring.{reading, around, start, lowest}
+use Rattle.words.specs.Strand.{opposite, strand, keyStart, key}
+use Rattle.words.specs.Factor.{longest, factors, factorTable}
+use Rattle.words.specs.Prefix.{leastSuffix, suffixTable, startTable}
+use Rattle.words.specs.Kind.{stranded}
+use Rattle.words.specs.Repeat.{repeat, ringRepeat}
+use Rattle.words.specs.Duel.{duels, pairs, meet, forward, lower, upper}
+use Rattle.words.specs.Table.{answered, rows, A, C, G, T}
+
+-- the definitions give each row of the table
+pub table : map (λ r. answered (r .ring)) rows ≡ rows
+unfolding reading around start lowest stranded opposite strand keyStart key longest factors factorTable duels meet forward lower upper
+table = refl
+
+-- what the document says besides of GATTACA, and of the repeat of ACGAC, and 02 of the ring repeat and the pairs of AA
+pub also : ((suffixTable (G ∷ A ∷ T ∷ T ∷ A ∷ C ∷ A ∷ []) ≡ 0 ∷ 1 ∷ 1 ∷ 1 ∷ 4 ∷ 4 ∷ 6 ∷ [])
+    × (startTable (G ∷ A ∷ T ∷ T ∷ A ∷ C ∷ A ∷ []) ≡ 0 ∷ 1 ∷ 1 ∷ 1 ∷ 4 ∷ 4 ∷ 4 ∷ [])
+    × (repeat (G ∷ A ∷ T ∷ T ∷ A ∷ C ∷ A ∷ []) ≡ 7)
+    × (repeat (A ∷ C ∷ G ∷ A ∷ C ∷ []) ≡ 3)
+    × (ringRepeat (A ∷ C ∷ G ∷ A ∷ C ∷ []) ≡ 5)
+    × (ringRepeat (A ∷ C ∷ A ∷ C ∷ []) ≡ 2)
+    × (pairs (A ∷ A ∷ []) ≡ 2))
+unfolding reading around duels pairs meet forward lower upper start leastSuffix suffixTable startTable repeat ringRepeat
+also = (refl, refl, refl, refl, refl, refl, refl)

@@ -1,0 +1,12 @@
+pub mod Search
+pub mod Order
+pub mod Least
+pub mod Ring
+pub mod Kind
+pub mod Strand
+pub mod Lyndon
+pub mod Factor
+pub mod Prefix
+pub mod Repeat
+pub mod Duel
+pub mod Table

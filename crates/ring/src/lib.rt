@@ -1,0 +1,2 @@
+// The ring rules: judging, factors, prefix tables, the two routes to a start, keys and comparison.
+mod factor;

@@ -1,2 +1,13 @@
 // The ring rules: judging, factors, prefix tables, the two routes to a start, keys and comparison.
+mod answer;
 mod factor;
+mod judge;
+
+pub use answer::Checked;
+pub use answer::Compared;
+pub use answer::Factored;
+pub use answer::Filled;
+pub use answer::Fought;
+pub use answer::Marked;
+pub use answer::Repeated;
+pub use judge::check;

@@ -1,0 +1,79 @@
+-- The judging of a ring (01, "Numbers given when a call declines").
+-- Assumes nothing.
+use mathlib.Core.Path.{_≡_}
+use mathlib.Core.Bool.{Bool, true, false, cond, not}
+use mathlib.Core.List.{List, [], _∷_, _++_}
+use Prim.Native.Nat.{ℕ, suc, _≤_, _<_}
+use lib.Dec.{ltb, eqb}
+use lib.ListN.{length, drop, getD}
+use Rattle.words.specs.Kind.{known, isLetter}
+use Rattle.ring.specs.declared.judge.Verdict.{Verdict}
+use Rattle.ring.specs.declared.judge.Verdict.the-variants.{Taken, Kind, Empty, Long, Letter, Short}
+use Rattle.ring.specs.Rule.{Rule, rule, judged}
+
+-- the most letters that a ring has (01, "n from 1 to 8,192")
+abbrev pub most : ℕ
+most = 8192
+
+-- the first position whose byte is no letter of the kind, n if there is none
+abbrev pub firstBad : ℕ → List ℕ → ℕ
+firstBad kind [] = 0
+firstBad kind (a ∷ w) = cond (isLetter kind a) (suc (firstBad kind w)) 0
+
+-- a ring that every call takes: of a known kind, 1 to 8,192 letters, each a letter of its kind (01)
+pub record Permitted (kind : ℕ) (w : List ℕ) : Type 0 where
+  pub kinds : known kind ≡ true
+  pub some : 0 < length w
+  pub within : length w ≤ most
+  pub letters : (i : ℕ) → i < length w → isLetter kind (getD w i 0) ≡ true
+
+-- the number of each verdict in 01's table; 0 means done
+abbrev pub numberOf : Verdict → ℕ
+numberOf Taken = 0
+numberOf Kind = 6
+numberOf Empty = 1
+numberOf Long = 2
+numberOf (Letter i) = 3
+numberOf Short = 4
+
+-- the place: the first position of a letter that is none, 0 unless the number is 3 (01)
+abbrev pub placeOf : Verdict → ℕ
+placeOf Taken = 0
+placeOf Kind = 0
+placeOf Empty = 0
+placeOf Long = 0
+placeOf (Letter i) = i
+placeOf Short = 0
+
+abbrev pub taken : Verdict → Bool
+taken Taken = true
+taken Kind = false
+taken Empty = false
+taken Long = false
+taken (Letter i) = false
+taken Short = false
+
+-- 01: "Order for rings: 6, 1, 2, 3, 4"; `short`: a needed table or room has too few entries, false for a call that is lent none
+abbrev pub ringRules : ℕ → List ℕ → Bool → List (Rule Verdict)
+ringRules kind w short =
+    rule (not (known kind)) Kind
+    ∷ rule (eqb (length w) 0) Empty
+    ∷ rule (ltb most (length w)) Long
+    ∷ rule (ltb (firstBad kind w) (length w)) (Letter (firstBad kind w))
+    ∷ rule short Short
+    ∷ []
+
+unfoldable pub verdict : ℕ → List ℕ → Bool → Verdict
+verdict kind w short = judged (ringRules kind w short) Taken
+
+-- a field of an answer: 0 where the call declines (01, "other fields are 0")
+abbrev pub field : Verdict → ℕ → ℕ
+field v x = cond (taken v) x 0
+
+-- a room written from its front; what lies beyond the written entries stays unchanged (01)
+abbrev pub over : List ℕ → List ℕ → List ℕ
+over new old = new ++ drop (length new) old
+
+-- a lent room afterwards: written where the call is done, else as it was (01, "no lent byte changes")
+abbrev pub after : Verdict → List ℕ → List ℕ → List ℕ
+after v new old = cond (taken v) (over new old) old

@@ -1,0 +1,120 @@
+// The judging of a ring: one verdict, in the order 6, 1, 2, 3, 4.
+ghost use mathlib.Core.Path.{_≡_};
+ghost use Rattle.words.specs.Kind.{isLetter, stranded};
+ghost use Rattle.ring.specs.Judging.{firstBad, verdict, numberOf, placeOf};
+ghost use Rattle.ring.specs.Answers.{checkedOf};
+use super::answer::Checked;
+
+// What is said of a ring; `Letter` holds the first position that has no letter of the kind.
+pub enum Verdict {
+    Taken,
+    Kind,
+    Empty,
+    Long,
+    Letter(usize),
+    Short,
+}
+
+// The number in 01's table.
+pub fn number_of(v: Verdict) -> u8
+    ensures { λ r. ⌜ r ≡ numberOf v ⌝ }
+{
+    match v {
+        Verdict::Taken => 0,
+        Verdict::Kind => 6,
+        Verdict::Empty => 1,
+        Verdict::Long => 2,
+        Verdict::Letter(_) => 3,
+        Verdict::Short => 4,
+    }
+}
+
+// The place of a wrong letter, 0 for every other verdict.
+pub fn place_of(v: Verdict) -> usize
+    ensures { λ r. ⌜ r ≡ placeOf v ⌝ }
+{
+    match v {
+        Verdict::Taken => 0,
+        Verdict::Kind => 0,
+        Verdict::Empty => 0,
+        Verdict::Long => 0,
+        Verdict::Letter(i) => i,
+        Verdict::Short => 0,
+    }
+}
+
+// Whether rings of a kind have an opposite strand.
+pub fn has_strands(kind: u8) -> bool
+    ensures { λ r. ⌜ r ≡ stranded kind ⌝ }
+{
+    kind == 1
+}
+
+// Whether a byte is a letter of the kind.
+pub fn is_letter(kind: u8, a: u8) -> bool
+    ensures { λ r. ⌜ r ≡ isLetter kind a ⌝ }
+{
+    if kind == 0 {
+        return true;
+    }
+    if a == b'A' {
+        return true;
+    }
+    if a == b'C' {
+        return true;
+    }
+    if a == b'G' {
+        return true;
+    }
+    a == b'T'
+}
+
+// The first position that holds no letter of the kind, the length if there is none.
+pub fn first_bad(ring: &[u8], kind: u8) -> usize
+    ensures { λ r. ⌜ r ≡ firstBad kind (now (ring .entry)) ⌝ }
+{
+    let n = ring.len();
+    let mut i = 0;
+    while i < n {
+        if !is_letter(kind, ring[i]) {
+            return i;
+        }
+        i += 1;
+    }
+    i
+}
+
+// The verdict; `short` says that a needed table or room has too few entries.
+pub fn judge(ring: &[u8], kind: u8, short: bool) -> Verdict
+    ensures { λ r. ⌜ r ≡ verdict kind (now (ring .entry)) short ⌝ }
+{
+    if 1 < kind {
+        return Verdict::Kind;
+    }
+    let n = ring.len();
+    if n == 0 {
+        return Verdict::Empty;
+    }
+    if 8192 < n {
+        return Verdict::Long;
+    }
+    let bad = first_bad(ring, kind);
+    if bad < n {
+        return Verdict::Letter(bad);
+    }
+    if short {
+        return Verdict::Short;
+    }
+    Verdict::Taken
+}
+
+// A ring judged alone: the number that every call would give it that is lent nothing.
+pub fn check(ring: &[u8], kind: u8) -> Checked
+    ensures { λ r. ⌜ r ≡ checkedOf kind (now (ring .entry)) ⌝ }
+{
+    let v = judge(ring, kind, false);
+    Checked {
+        number: number_of(v),
+        place: place_of(v),
+    }
+}

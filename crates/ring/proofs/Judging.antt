@@ -1,6 +1,6 @@
 -- The judging of a ring: what a scan of the letters keeps, and the verdict from what the tests showed.
 -- Assumes nothing.
-use mathlib.Core.Path.{_≡_, sym}
+use mathlib.Core.Path.{_≡_}
 use mathlib.Core.Bool.{Bool, true, false}
 use mathlib.Core.List.{List}
 use Prim.Native.Nat.{ℕ, suc, _≤_, _<_, _+_}

@@ -2,6 +2,7 @@
 mod answer;
 mod factor;
 mod judge;
+mod reading;
 
 pub use answer::Checked;
 pub use answer::Compared;

@@ -17,6 +17,7 @@ pub mod Run
 pub mod Runs
 pub mod Repeat
 pub mod RingRepeat
+pub mod Paired
 pub mod Beaten
 pub mod Duel
 pub mod Pairs

@@ -1,8 +1,8 @@
 -- The judging of a ring: what a scan of the letters keeps, and the verdict from what the tests showed.
 -- Assumes nothing.
-use mathlib.Core.Path.{_≡_}
+use mathlib.Core.Path.{_≡_, refl}
 use mathlib.Core.Bool.{Bool, true, false}
-use mathlib.Core.List.{List}
+use mathlib.Core.List.{List, [], _∷_}
 use Prim.Native.Nat.{ℕ, suc, _≤_, _<_, _+_}
 use native.Mathlib.Omega.{arith}
 use native.Mathlib.Numerals.{add-one}
@@ -11,8 +11,12 @@ use lib.Dec.{eqb}
 use lib.ListN.{length, drop, getD}
 use lib.Seq.{drop-cons, drop-length}
 use Rattle.words.specs.Kind.{isLetter}
+use types.Run.{OneOf, miss}
+use denote.Enum.Declared.{tagOf}
+use Rattle.ring.proofs.judge.Verdict.{the-type}
+use Rattle.ring.specs.declared.judge.Verdict.{Verdict}
 use Rattle.ring.specs.declared.judge.Verdict.the-variants.{Taken, Kind, Empty, Long, Letter, Short}
-use Rattle.ring.specs.Judging.{most, firstBad, verdict}
+use Rattle.ring.specs.Judging.{most, firstBad, taken, verdict}
 
 -- ---- the scan of the letters: no bad letter below i
 
@@ -74,3 +78,13 @@ module _ (kind : ℕ) (w : List ℕ) (short : Bool) where
           pub says-taken : short ≡ false → verdict kind w short ≡ Taken
           unfolding verdict
           says-taken t = rw (le-leb kind 1 k, ne-eqb (length w) 0 n, le-ltb most (length w) m, le-ltb (firstBad kind w) (length w) f, t)
+
+-- ---- an answer's arm for every verdict but Taken
+
+pub refused : (v : Verdict) → OneOf (1 ∷ 2 ∷ 3 ∷ 4 ∷ 5 ∷ []) (tagOf the-type v) → taken v ≡ false
+refused Taken o = absurd (miss (1 ∷ 2 ∷ 3 ∷ 4 ∷ 5 ∷ []) 0 tt o)
+refused Kind o = refl
+refused Empty o = refl
+refused Long o = refl
+refused (Letter i) o = refl
+refused Short o = refl

@@ -1,1 +1,5 @@
 pub mod Judging
+pub mod Laid
+pub mod Spacing
+pub mod Routing
+pub mod Exactly

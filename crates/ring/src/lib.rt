@@ -11,4 +11,5 @@ pub use answer::Filled;
 pub use answer::Fought;
 pub use answer::Marked;
 pub use answer::Repeated;
+pub use factor::factors;
 pub use judge::check;

@@ -1,0 +1,53 @@
+-- `ring::factor::factors` meets its contract.
+-- Assumes nothing.
+use borrow.Author.Needs.{needs}
+use mathlib.Core.Path.{sym, _∙_}
+use borrow.Author.Tests.{ltb-false}
+use Rattle.words.proofs.Route.{route-is}
+use Rattle.ring.proofs.Judging.{refused}
+use Rattle.ring.proofs.Exactly.{taken-fits}
+use Rattle.ring.proofs.factor.factors.Statement.{statement}
+use Rattle.ring.proofs.factor.factors.Tie as tie
+use Rattle.ring.proofs.factor.factors.Reads as reads
+use Rattle.ring.proofs.factor.factors.Lts as lts
+use Rattle.ring.proofs.factor.fill_factors.Reads as fill-factors-reads
+use Rattle.ring.proofs.judge.judge.Reads as judge-reads
+use Rattle.ring.proofs.judge.number_of.Reads as number-of-reads
+use Rattle.ring.proofs.judge.place_of.Reads as place-of-reads
+
+judge-requires : tie.Need-judge-requires
+judge-requires c κs = search needs
+
+enum-told : tie.Need-enum-told
+enum-told c = search needs
+
+number-of-requires : tie.Need-number-of-requires
+number-of-requires c κs = search needs
+
+place-of-requires : tie.Need-place-of-requires
+place-of-requires c κs = search needs
+
+returns : tie.Need-returns
+returns c =
+    let e = c .before .before .before .judge .ensures in
+    let r = refused (c .before .before .before .judge .result) (c .before .before .match .keys2) in
+    (rw (← e, r) (cc), rw (← e, r))
+
+fill-factors-requires : tie.Need-fill-factors-requires
+fill-factors-requires c κs =
+    let f = taken-fits _ _ _ (sym (c .before .before .before .judge .ensures) ∙ c .before .enum-told .given .1) in
+    (f .0 .some, f .0 .within, ltb-false _ _ (f .1))
+
+same-length : tie.Need-same-length
+same-length c = search needs
+
+returns-2 : tie.Need-returns-2
+returns-2 c =
+    let e = sym (c .before .before .before .before .before .before .judge .ensures) ∙ c .before .before .before .before .enum-told .given .1 in
+    let f = taken-fits _ _ _ e in
+    let d = c .before .before .fill-factors .ensures in
+    (rw e (cc (d .0 .0, d .0 .1, route-is _ (f .0 .some))), rw e (d .1))
+
+pub factors-spec : {M : Type 1} → statement M
+factors-spec =
+    tie.close (tie.spec judge-requires enum-told number-of-requires place-of-requires returns fill-factors-requires same-length returns-2)

@@ -1,6 +1,6 @@
 -- Each number is given exactly when 01 says: the first rule of the order 6, 1, 2, 3, 4 that holds.
 -- Assumes nothing.
-use mathlib.Core.Path.{_≡_, refl, sym, ap, _∙_, subst}
+use mathlib.Core.Path.{_≡_, refl, sym, ap, _∙_}
 use mathlib.Core.Bool.{Bool, true, false, true≢false}
 use mathlib.Core.List.{List, [], _∷_}
 use Prim.Native.Nat.{ℕ, zero, suc, _≤_, _<_}
@@ -11,7 +11,7 @@ use Rattle.words.specs.Kind.{known, isLetter}
 use Rattle.words.proofs.Search.{by-test, either, lt-or-ge}
 use Rattle.ring.specs.declared.judge.Verdict.{Verdict}
 use Rattle.ring.specs.declared.judge.Verdict.the-variants.{Taken, Kind, Empty, Long, Letter, Short}
-use Rattle.ring.specs.Judging.{most, firstBad, Permitted, numberOf, placeOf, taken, verdict}
+use Rattle.ring.specs.Judging.{most, firstBad, Permitted, taken, verdict}
 use Rattle.ring.proofs.Judging.{says-kind, says-empty, says-long, says-letter, says-short, says-taken}
 
 -- ---- the first position that has no letter

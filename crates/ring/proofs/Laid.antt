@@ -7,7 +7,7 @@ use native.Mathlib.Omega.{arith}
 use native.Mathlib.Numerals.{add-one}
 use lib.ListN.{length, take, drop, set, length-append, length-drop}
 use borrow.Rule.Slice.PartMut.{putMid, postOf, post-is}
-use lib.Seq.{set-split, drop-cons, take-at, take-all, drop-at, drop-drop, drop-length}
+use lib.Seq.{set-split, take-at, take-all, drop-at, drop-drop, drop-length}
 use Rattle.ring.specs.Judging.{over}
 
 -- t is o with `new` written to its front

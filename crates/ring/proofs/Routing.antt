@@ -5,12 +5,12 @@ use mathlib.Core.Bool.{true, false}
 use mathlib.Core.List.{List, [], _++_, append-nil, append-assoc}
 use Prim.Native.Nat.{ℕ, zero, suc, _≤_, _<_, _+_, _-_, _*_, _/_}
 use native.Mathlib.Omega.{arith}
-use native.Mathlib.Nat.{suc-mul, zero-mul, mul-div-cancel}
+use native.Mathlib.Nat.{suc-mul, mul-div-cancel}
 use lib.ListN.{length, take, drop, length-append, length-drop}
 use lib.Seq.{take-all, drop-drop, drop-length}
 use Rattle.words.specs.Order.{before}
 use Rattle.words.specs.Ring.{reading, start}
-use Rattle.words.specs.Factor.{FirstRun, flat, copies, factors, firsts, factorTable}
+use Rattle.words.specs.Factor.{FirstRun, factors, firsts, factorTable}
 use Rattle.words.proofs.Factor.{length-copies, run-size, run-word, run-within}
 use Rattle.words.proofs.Run.{Best, best-none, best-new, best-old, best-last}
 use borrow.Rule.Slice.PartMut.{putMid}

@@ -5,8 +5,8 @@ use mathlib.Core.List.{List, [], _∷_, _++_}
 use Prim.Native.Nat.{ℕ, zero, suc, _≤_, _<_, _+_, _-_, _*_}
 use native.Mathlib.Omega.{arith}
 use native.Mathlib.Numerals.{add-one}
-use native.Mathlib.Nat.{zero-mul, suc-mul, add-assoc, add-zero}
-use lib.ListN.{length, set, length-append}
+use native.Mathlib.Nat.{zero-mul, suc-mul, add-zero}
+use lib.ListN.{length, set}
 use Rattle.words.specs.Factor.{copies, firsts}
 use Rattle.ring.specs.Judging.{over}
 use Rattle.ring.specs.Spaced.{spaced}

@@ -3,6 +3,7 @@ mod answer;
 mod factor;
 mod judge;
 mod reading;
+mod suffix;
 
 pub use answer::Checked;
 pub use answer::Compared;
@@ -13,3 +14,4 @@ pub use answer::Marked;
 pub use answer::Repeated;
 pub use factor::factors;
 pub use judge::check;
+pub use suffix::suffixes;

@@ -1,0 +1,56 @@
+// The suffix table: the least nonempty suffix of every prefix.
+ghost use mathlib.Core.Path.{_≡_};
+ghost use Prim.Native.Nat.{_≤_};
+ghost use lib.ListN.{length};
+ghost use Rattle.words.specs.Prefix.{suffixTable};
+ghost use Rattle.ring.specs.Judging.{over};
+ghost use Rattle.ring.specs.Answers.{filledOf, suffixesTable};
+use super::answer::Filled;
+use super::judge::Verdict;
+
+// Block by block, each a Lyndon word over and over: an entry is the block's head where the block is one Lyndon word, else the
+// entry one word before, plus that word's length.
+fn fill_suffixes(ring: &[u8], table: &mut [u16])
+    requires { ⌜ (length (now ring) ≤ length (now table)) × (length (now ring) ≤ 8192) ⌝ }
+    ensures { λ _. ⌜ now (table .exit) ≡ over (suffixTable (now (ring .entry))) (now (table .entry)) ⌝ }
+{
+    let n = ring.len();
+    let mut m: usize = 0;
+    'blocks: while m < n {
+        table[m] = m as u16;
+        let mut p: usize = 1;
+        let mut l: usize = m + 1;
+        'letters: while l < n {
+            if ring[l] < ring[l - p] {
+                break 'letters;
+            }
+            if ring[l - p] < ring[l] {
+                p = l + 1 - m;
+                table[l] = m as u16;
+            } else {
+                table[l] = table[l - p] + (p as u16);
+            }
+            l += 1;
+        }
+        m = l - (l - m) % p;
+    }
+}
+
+// The first position of the least nonempty suffix of each prefix, in the table's first n entries.
+pub fn suffixes(ring: &[u8], kind: u8, table: &mut [u16]) -> Filled
+    ensures { λ r. ⌜ r ≡ filledOf kind (now (ring .entry)) (length (now (table .entry))) ⌝ }
+    ensures { λ _. ⌜ now (table .exit) ≡ suffixesTable kind (now (ring .entry)) (now (table .entry)) ⌝ }
+{
+    let v = super::judge::judge(ring, kind, table.len() < ring.len());
+    let Verdict::Taken = v else {
+        return Filled {
+            number: super::judge::number_of(v),
+            place: super::judge::place_of(v),
+        };
+    };
+    fill_suffixes(ring, table);
+    Filled {
+        number: 0,
+        place: 0,
+    }
+}

@@ -1,5 +1,6 @@
 // The ring rules: judging, factors, prefix tables, the two routes to a start, keys and comparison.
 mod answer;
+mod duels;
 mod factor;
 mod judge;
 mod reading;
@@ -12,6 +13,7 @@ pub use answer::Filled;
 pub use answer::Fought;
 pub use answer::Marked;
 pub use answer::Repeated;
+pub use duels::duel;
 pub use factor::factors;
 pub use judge::check;
 pub use suffix::suffixes;

@@ -1,0 +1,48 @@
+-- `ring::duels::duel` meets its contract.
+-- Assumes nothing.
+use mathlib.Core.Path.{sym, _∙_}
+use Rattle.ring.proofs.Judging.{refused}
+use Rattle.ring.proofs.Exactly.{taken-fits}
+use borrow.Author.Needs.{needs}
+use Rattle.ring.proofs.duels.duel.Statement.{statement}
+use Rattle.ring.proofs.duels.duel.Tie as tie
+
+judge-requires : tie.Need-judge-requires
+judge-requires c κs = search needs
+
+enum-told : tie.Need-enum-told
+enum-told c = search needs
+
+number-of-requires : tie.Need-number-of-requires
+number-of-requires c κs = search needs
+
+place-of-requires : tie.Need-place-of-requires
+place-of-requires c κs = search needs
+
+returns : tie.Need-returns
+returns c =
+    let e = c .before .before .before .judge .ensures in
+    let r = refused (c .before .before .before .judge .result) (c .before .before .match .keys2) in
+    rw (← e, r) (cc)
+
+fight-requires : tie.Need-fight-requires
+fight-requires c κs =
+    let f = taken-fits _ _ _ (sym (c .before .before .judge .ensures) ∙ c .enum-told .given .1) in
+    (f .0 .some, f .0 .within)
+
+returns-2 : tie.Need-returns-2
+returns-2 c =
+    let e = sym (c .before .before .before .judge .ensures) ∙ c .before .enum-told .given .1 in
+    rw e (cc)
+
+pub duel-spec : {M : Type 1} → statement M
+duel-spec =
+    tie.close
+    (tie.spec
+    judge-requires
+    enum-told
+    number-of-requires
+    place-of-requires
+    returns
+    fight-requires
+    returns-2)

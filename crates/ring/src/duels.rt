@@ -1,0 +1,100 @@
+// The duel route: the sequence of duels, with the pairs of letters that they read.
+ghost use mathlib.Core.Path.{_≡_};
+ghost use Prim.Native.Nat.{_≤_, _<_};
+ghost use lib.ListN.{length};
+ghost use Rattle.words.specs.Duel.{duels, startOf, pairs, movedP, movedQ};
+ghost use Rattle.ring.specs.Answers.{foughtOf};
+use super::answer::Fought;
+use super::judge::Verdict;
+
+// Where the two positions of a duel stand.
+struct Pair {
+    p: usize,
+    q: usize,
+}
+
+// Step 4: of letters `a` at p + k and `b` at q + k the greater one's position moves forward by k + 1; if the two are then
+// equal, q grows by one; the smaller is called p.
+fn moved(p: usize, q: usize, k: usize, a: u8, b: u8) -> Pair
+    requires { ⌜ (p ≤ 1000000) × (q ≤ 1000000) × (k ≤ 1000000) ⌝ }
+    ensures { λ r. ⌜ (r .p ≡ movedP p q k a b) × (r .q ≡ movedQ p q k a b) ⌝ }
+{
+    let x = if b < a { p + (k + 1) } else { p };
+    let y = if a < b { q + (k + 1) } else { q };
+    if x == y {
+        Pair { p: x, q: y + 1 }
+    } else {
+        if y < x {
+            Pair { p: y, q: x }
+        } else {
+            Pair { p: x, q: y }
+        }
+    }
+}
+
+// Where the duels end, and the pairs read.
+struct Ended {
+    start: usize,
+    pairs: usize,
+}
+
+// Steps 1 to 4: a duel ends at its first differing pair, or after n equal pairs.
+fn fight(ring: &[u8]) -> Ended
+    requires { ⌜ (0 < length (now ring)) × (length (now ring) ≤ 8192) ⌝ }
+    ensures { λ r. ⌜ (r .start ≡ startOf (duels (now (ring .entry)))) × (r .pairs ≡ pairs (now (ring .entry))) ⌝ }
+{
+    let n = ring.len();
+    let mut p: usize = 0;
+    let mut q: usize = 1;
+    let mut read: usize = 0;
+    'duels: while q < n {
+        let mut k: usize = 0;
+        let met = 'scan: loop {
+            if k == n {
+                break 'scan n;
+            }
+            if super::reading::letter(ring, p + k) != super::reading::letter(ring, q + k) {
+                break 'scan k;
+            }
+            k += 1;
+        };
+        if met == n {
+            return Ended {
+                start: p,
+                pairs: read + n,
+            };
+        }
+        read += met + 1;
+        let a = super::reading::letter(ring, p + met);
+        let b = super::reading::letter(ring, q + met);
+        let next = moved(p, q, met, a, b);
+        p = next.p;
+        q = next.q;
+    }
+    Ended {
+        start: p,
+        pairs: read,
+    }
+}
+
+// The start by duels, lent no table, and the pairs read.
+pub fn duel(ring: &[u8], kind: u8) -> Fought
+    ensures { λ r. ⌜ r ≡ foughtOf kind (now (ring .entry)) ⌝ }
+{
+    let v = super::judge::judge(ring, kind, false);
+    let Verdict::Taken = v else {
+        return Fought {
+            number: super::judge::number_of(v),
+            place: super::judge::place_of(v),
+            start: 0,
+            pairs: 0,
+        };
+    };
+    let end = fight(ring);
+    Fought {
+        number: 0,
+        place: 0,
+        start: end.start,
+        pairs: end.pairs,
+    }
+}

@@ -1,0 +1,2 @@
+// What `ringline` prints, as bytes in a lent room.
+mod decimal;

@@ -120,15 +120,15 @@ pub record Turned (h : ℕ) (w o t : List ℕ) (c : ℕ) : Type 0 where
   pub low : (i : ℕ) → next ≤ i → i < length w → getD t i 0 < h
   pub kept : Kept (length w) o t
 
-pub turned-first : (h : ℕ) (w o t : List ℕ) → Flagged h w t (length w) → Kept (length w) o t → Turned h w o t (length w)
-turned-first h w o t f k = record {
+pub turned-first : (h : ℕ) (w t : List ℕ) → Flagged h w t (length w) → Turned h w t t (length w)
+turned-first h w t f = record {
   next = length w;
   flags = f;
   order = omega arith;
   clear = λ i x y. absurd (omega arith);
   right = record { entry = λ i x y a. absurd (omega arith) };
   low = λ i x y. absurd (omega arith);
-  kept = k;
+  kept = kept-same (length w) t;
 }
 
 pub turned-within : (h : ℕ) (w o t : List ℕ) (c : ℕ) → Turned h w o t c → c ≤ length w
@@ -198,6 +198,7 @@ at-front : {h : ℕ} {w t : List ℕ} (m : ℕ) → Flagged h w t m → ((i : �
 at-front m none f = refl
 at-front {w = w} n (more {m} {p} {e} k l r a b c) f = absurd (omega (arith, f m (omega (arith, run-some (drop m w) p e r))))
 
-pub turned-all : (h : ℕ) (w o t : List ℕ) → Turned h w o t 0 → length w ≤ length o → t ≡ startTable w ++ drop (length w) o
-turned-all h w o t g l =
-    right-all w o t (subst (Right w t) (at-front (g .next) (g .flags) (λ i x. g .clear i (omega arith) x)) (g .right)) (g .kept) l
+-- u is the table with the heads flagged, o the table before all
+pub turned-all : (h : ℕ) (w o u t : List ℕ) (c : ℕ) → Turned h w u t c → c ≤ 0 → Kept (length w) o u → length w ≤ length o → t ≡ startTable w ++ drop (length w) o
+turned-all h w o u t c g z k l =
+    right-all w o t (subst (Right w t) (at-front (g .next) (g .flags) (λ i x. g .clear i (omega arith) x)) (g .right)) (kept-on (length w) o u t k (g .kept)) l

@@ -55,11 +55,10 @@ abbrev pub Ends : List ℕ → ℕ → ℕ → Type 0
 Ends w p l = l < length w → getD w l 0 < getD w (l - p) 0
 
 -- the whole block is marked, up to l
-pub record Marked (h : ℕ) (w o t : List ℕ) (m l : ℕ) : Type 0 where
+pub record Marked (h : ℕ) (w t : List ℕ) (m l : ℕ) : Type 0 where
   pub period : ℕ
   pub marking : Marking h w t m period l
   pub ends : Ends w period l
-  pub outside : Outside o t m l
 
 -- the entries from m to l are those that the block gives
 pub record Started (w o t : List ℕ) (m l : ℕ) : Type 0 where

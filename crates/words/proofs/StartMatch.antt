@@ -53,10 +53,10 @@ module _ (x b : List ℕ) (z : ℕ) (m : z ≤ length x) (n : z ≤ length b) (a
       let p : length (take z x) ≡ z = length-take-le z x m in
       ext-getD 0 _ _ (p ∙ sym (length-take-le z b n)) (λ q l. let o : q < z = rw p at l in getD-take z x q 0 o ∙ a q o ∙ sym (getD-take z b q 0 o))
 
-  pub ok-low : z < length x → z < length b → getD x z 0 < getD b z 0 → Ok x b
+  ok-low : z < length x → z < length b → getD x z 0 < getD b z 0 → Ok x b
   ok-low h l o = low (decided-at z x b agreed h l o)
 
-  pub not-high : z < length x → z < length b → getD b z 0 < getD x z 0 → Not x b
+  not-high : z < length x → z < length b → getD b z 0 < getD x z 0 → Not x b
   not-high h l o = high (decided-at z b x (sym agreed) l h o)
 
   pub ok-front : length x ≤ z → Ok x b

@@ -1,11 +1,11 @@
 -- `matches::extend` meets its contract. The invariant: z letters match.
 -- Assumes nothing.
-use Rattle.words.specs.Match.{Match}
-use Rattle.words.proofs.Match.{match-more}
-use borrow.Author.Needs.{needs}
 use Prim.Native.Nat.{_-_}
 use native.Mathlib.Omega.{arith}
+use borrow.Author.Needs.{needs}
 use lib.ListN.{length}
+use Rattle.words.specs.Match.{Match}
+use Rattle.words.proofs.Match.{match-more}
 use Rattle.ring.proofs.matches.extend.Statement.{statement}
 use Rattle.ring.proofs.matches.extend.Tie as tie
 

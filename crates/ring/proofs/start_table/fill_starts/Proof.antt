@@ -1,13 +1,13 @@
 -- `start_table::fill_starts` meets its contract. The invariant: the blocks from c on are filled, and the heads before c flagged.
 -- Assumes nothing.
-use Rattle.words.proofs.Match.{kept-on}
-use Rattle.words.proofs.StartFill.{done-on}
-use Rattle.words.proofs.StartTable.{Turned, turned-first, turned-within, turned-head, turned-low, turned-all}
-use borrow.Author.Needs.{needs}
 use mathlib.Core.Path.{_∙_}
 use Prim.Native.Nat.{_≤_}
 use native.Mathlib.Omega.{arith}
+use borrow.Author.Needs.{needs}
 use lib.ListN.{length}
+use Rattle.words.proofs.Match.{kept-on}
+use Rattle.words.proofs.StartFill.{done-on}
+use Rattle.words.proofs.StartTable.{Turned, turned-first, turned-within, turned-head, turned-low, turned-all}
 use Rattle.ring.proofs.start_table.fill_starts.Statement.{statement}
 use Rattle.ring.proofs.start_table.fill_starts.Tie as tie
 

@@ -1,16 +1,15 @@
 -- `start_table::flag_heads` meets its contract. The invariant: the heads so far are flagged.
 -- Assumes nothing.
 use mathlib.Core.List.{List}
-use lib.ListN.{take, drop, length-drop}
-use Rattle.words.proofs.Factor.{run-within}
-use lib.Seq.{take-all}
-use Rattle.words.specs.Factor.{FirstRun}
-use Rattle.words.proofs.StartTable.{Flagging, flagging-none, flagging-low, flagging-next, flagged-head, run-some}
-use borrow.Author.Needs.{needs}
 use mathlib.Core.Path.{_≡_}
 use Prim.Native.Nat.{ℕ, _-_}
 use native.Mathlib.Omega.{arith}
-use lib.ListN.{length}
+use borrow.Author.Needs.{needs}
+use lib.ListN.{take, drop, length-drop, length}
+use lib.Seq.{take-all}
+use Rattle.words.specs.Factor.{FirstRun}
+use Rattle.words.proofs.Factor.{run-within}
+use Rattle.words.proofs.StartTable.{Flagging, flagging-none, flagging-low, flagging-next, flagged-head, run-some}
 use Rattle.ring.proofs.start_table.flag_heads.Statement.{statement}
 use Rattle.ring.proofs.start_table.flag_heads.Tie as tie
 

@@ -1,11 +1,11 @@
 -- `start_table::judge` meets its contract: each way out is one of the tests of `Rattle.words.proofs.StartMark`.
 -- Assumes nothing.
-use Rattle.words.proofs.StartMark.{unmark-le, judged-far, judged-far-not, judged-whole, judged-reach, judged-low, judged-high}
-use borrow.Author.Needs.{needs}
 use mathlib.Core.Path.{sym}
 use Prim.Native.Nat.{_+_, _-_}
 use native.Mathlib.Omega.{arith}
+use borrow.Author.Needs.{needs}
 use lib.ListN.{getD}
+use Rattle.words.proofs.StartMark.{unmark-le, judged-far, judged-far-not, judged-whole, judged-reach, judged-low, judged-high}
 use Rattle.ring.proofs.start_table.judge.Statement.{statement}
 use Rattle.ring.proofs.start_table.judge.Tie as tie
 

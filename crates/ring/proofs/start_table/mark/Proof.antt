@@ -1,15 +1,14 @@
 -- `start_table::mark` meets its contract. The invariant: the entries so far are marked.
 -- Assumes nothing.
-use lib.ListN.{length-set}
+use mathlib.Core.Path.{_∙_}
+use Prim.Native.Nat.{_-_, _≤_}
+use native.Mathlib.Omega.{arith}
+use borrow.Author.Needs.{needs}
+use lib.ListN.{length-set, length}
 use Rattle.words.specs.Mark.{Outside, Marking}
 use Rattle.words.proofs.Search.{either}
 use Rattle.words.proofs.Fill.{block-greater, block-equal}
 use Rattle.words.proofs.StartMark.{outside-none, outside-more, outside-at, marking-first, marking-more, judged-new, judged-size}
-use borrow.Author.Needs.{needs}
-use mathlib.Core.Path.{_∙_}
-use Prim.Native.Nat.{_-_, _≤_}
-use native.Mathlib.Omega.{arith}
-use lib.ListN.{length}
 use Rattle.ring.proofs.start_table.mark.Statement.{statement}
 use Rattle.ring.proofs.start_table.mark.Tie as tie
 

@@ -1,17 +1,16 @@
 -- `start_table::resolve` meets its contract. The invariant: the entries so far are the starts that the block gives.
 -- Assumes nothing.
 use mathlib.Core.List.{List}
-use lib.ListN.{set, length-set}
+use mathlib.Core.Path.{_≡_, _∙_}
+use Prim.Native.Nat.{ℕ, _+_, _-_, _≤_, _<_}
+use native.Mathlib.Omega.{arith}
+use borrow.Author.Needs.{needs}
+use lib.ListN.{set, length-set, length}
 use Rattle.words.specs.Block.{Block}
 use Rattle.words.specs.Mark.{Started}
 use Rattle.words.proofs.Search.{either}
 use Rattle.words.proofs.Fill.{block-first, block-greater, block-equal}
 use Rattle.words.proofs.StartFill.{started-first, started-new, started-yes, started-no, started-low, started-mark, done}
-use borrow.Author.Needs.{needs}
-use mathlib.Core.Path.{_≡_, _∙_}
-use Prim.Native.Nat.{ℕ, _+_, _-_, _≤_, _<_}
-use native.Mathlib.Omega.{arith}
-use lib.ListN.{length}
 use Rattle.ring.proofs.start_table.resolve.Statement.{statement}
 use Rattle.ring.proofs.start_table.resolve.Tie as tie
 use Rattle.ring.proofs.start_table.resolve.Reads as reads

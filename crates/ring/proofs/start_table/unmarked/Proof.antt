@@ -1,8 +1,8 @@
 -- `start_table::unmarked` meets its contract.
 -- Assumes nothing.
-use Rattle.words.proofs.StartMark.{unmark-high, unmark-low}
-use borrow.Author.Needs.{needs}
 use mathlib.Core.Path.{sym}
+use borrow.Author.Needs.{needs}
+use Rattle.words.proofs.StartMark.{unmark-high, unmark-low}
 use Rattle.ring.proofs.start_table.unmarked.Statement.{statement}
 use Rattle.ring.proofs.start_table.unmarked.Tie as tie
 

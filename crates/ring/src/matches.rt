@@ -18,6 +18,7 @@ fn extend(w: &[u8], k: usize, from: usize) -> usize
     z
 }
 
+// A number that is no more than either: the lesser.
 fn lesser(a: usize, b: usize) -> usize
     ensures { λ r. ⌜ (r ≤ a) × (r ≤ b) ⌝ }
 {

@@ -3,7 +3,10 @@ mod answer;
 mod duels;
 mod factor;
 mod judge;
+mod matches;
+mod periods;
 mod reading;
+mod start_table;
 mod suffix;
 
 pub use answer::Checked;
@@ -16,4 +19,6 @@ pub use answer::Repeated;
 pub use duels::duel;
 pub use factor::factors;
 pub use judge::check;
+pub use periods::repeat;
+pub use start_table::starts;
 pub use suffix::suffixes;

@@ -11,6 +11,7 @@ use Rattle.words.specs.Order.{_≺_, _≼_}
 use Rattle.words.specs.Lyndon.{Lyndon}
 use Rattle.words.specs.Factor.{flat, copies, FirstRun}
 use Rattle.words.specs.Prefix.{leastSuffix}
+pub use Rattle.words.specs.Block.{Head}
 use Rattle.words.proofs.Search.{either, lt-or-ge}
 use Rattle.words.proofs.Order.{irrefl, trans, lt-le, le-trans, lt-of-le-lt, lt-of-lt-le, prefix-le, decided}
 use Rattle.words.proofs.Factor.{run-split, run-word, run-within}
@@ -24,10 +25,6 @@ pub drop-take : (m k : ℕ) (w : List ℕ) → m ≤ length w → drop m (take (
 drop-take m k w h = rw take-add (drop-at (take m w) (take k (drop m w)) m (length-take-le m w h))
 
 -- ---- heads: no suffix of a longer prefix that begins before m is least
-
-pub record Head (w : List ℕ) (m : ℕ) : Type 0 where
-  pub within : m ≤ length w
-  pub low : (k i : ℕ) → 0 < k → m + k ≤ length w → i < m → take k (drop m w) ≺ drop i (take (m + k) w)
 
 pub head-first : (w : List ℕ) → Head w 0
 head-first w = record { within = omega arith; low = λ k i h l x. absurd (omega arith) }

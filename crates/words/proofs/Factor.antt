@@ -120,6 +120,11 @@ unfolding longest
 longest-most a w zero h t = omega arith
 longest-most a w (suc k) h t = greatest-passes (λ k. lyndon (take k (a ∷ w))) (length (a ∷ w)) (suc k) (omega arith) h t .0
 
+pub longest-within : (w : List ℕ) → longest w ≤ length w
+unfolding longest
+longest-within [] = omega arith
+longest-within (a ∷ w) = longest-fits a w .2
+
 pub longest-least : (w : List ℕ) (k : ℕ) → k ≤ length w → Lyndon (take k w) → k ≤ longest w
 longest-least [] k h y = omega arith
 longest-least (a ∷ w) k h y = longest-most a w k h (lyndon-true _ y)

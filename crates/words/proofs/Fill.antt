@@ -10,17 +10,11 @@ use native.Mathlib.Nat.{mod-le}
 use lib.ListN.{length, take, drop, getD, set, length-drop, length-set, take-append-drop}
 use lib.Seq.{getD-drop, getD-take, getD-set-same, getD-set-other, drop-set-lt, ext-getD, length-take-le}
 use Rattle.words.specs.Prefix.{leastSuffix, suffixTable}
+pub use Rattle.words.specs.Block.{Block}
 use Rattle.words.proofs.Search.{up-to}
 use Rattle.words.proofs.Prefix.{leastSuffix-is, length-suffixTable, suffixTable-at}
-use Rattle.words.proofs.Scan.{Scan, scan-first, scan-greater, scan-equal, scan-end}
+use Rattle.words.proofs.Scan.{Scan, scan-first, scan-greater, scan-equal, scan-end, scan-one}
 use Rattle.words.proofs.Block.{Head, head-next, entry-head, entry-word, entry-over}
-
-pub record Block (w : List ℕ) (m p l : ℕ) : Type 0 where
-  pub head : Head w m
-  pub some : 0 < p
-  pub order : m + p ≤ l
-  pub inside : l ≤ length w
-  pub scan : Scan (drop m w) (l - m) (l - m - p)
 
 -- a scan with m + j and m + k for its places, as a block
 block : (w : List ℕ) (m j k p l : ℕ) → Head w m → Scan (drop m w) j k → m + j ≡ l → k + p ≡ j → Block w m p l
@@ -30,6 +24,10 @@ block w m j k p l a s e f =
     let o : k < j = s .order in
     let i : j ≤ length (drop m w) = s .inside in
     record { head = a; some = omega arith; order = omega arith; inside = omega (arith, a .within, length-drop m w); scan = rw (y, x) s }
+
+-- how far a block is read tells the length of its word
+pub block-one : (w : List ℕ) (m p q l : ℕ) → Block w m p l → Block w m q l → p ≡ q
+block-one w m p q l a b = omega (arith, scan-one (drop m w) _ _ _ (a .scan) (b .scan), a .order, b .order)
 
 pub block-first : (w : List ℕ) (m : ℕ) → Head w m → m < length w → Block w m 1 (m + 1)
 block-first w m a h = block w m 1 0 1 (m + 1) a (scan-first (drop m w) (rw length-drop (omega arith))) refl refl

@@ -26,7 +26,9 @@ pub mod Chain
 pub mod Start
 pub mod StartScan
 pub mod StartHead
+pub mod Match
+pub mod StartMatch
+pub mod StartMark
 pub mod StartFill
 pub mod StartTable
-pub mod StartTest
 pub mod Table

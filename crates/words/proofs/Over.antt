@@ -10,13 +10,9 @@ use lib.Seq.{drop-append-le}
 use Rattle.words.specs.Order.{_≺_, letter, next, _≪_, here, later}
 use Rattle.words.specs.Lyndon.{Lyndon}
 use Rattle.words.specs.Factor.{flat, copies}
+pub use Rattle.words.specs.Block.{Over, part, again}
 use Rattle.words.proofs.Order.{append-left, decided, decided-left, decided-under, prefix-before}
 use Rattle.words.proofs.Lyndon.{join}
-
--- v is u over and over, the last time in part, and then u goes on with the letter b
-pub data Over (u : List ℕ) : List ℕ → ℕ → Type 0 where
-  part : {v : List ℕ} {b : ℕ} (s : List ℕ) → u ≡ v ++ (b ∷ s) → Over u v b
-  again : {v : List ℕ} {b : ℕ} → Over u v b → Over u (u ++ v) b
 
 -- ---- a greater letter
 

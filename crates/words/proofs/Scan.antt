@@ -13,18 +13,10 @@ use lib.Seq.{take-take, take-suc, drop-cons, getD-at, getD-take, length-take-le,
 use Rattle.words.specs.Order.{_≪_}
 use Rattle.words.specs.Lyndon.{Lyndon}
 use Rattle.words.specs.Factor.{flat, copies, FirstRun}
+pub use Rattle.words.specs.Block.{Scan}
 use Rattle.words.proofs.Lyndon.{lyndon-is}
 use Rattle.words.proofs.Factor.{run-factors, run-longest, length-copies}
 use Rattle.words.proofs.Over.{Over, part, again, greater, equal, expected, Rest, lesser}
-
--- ---- the scan: j letters are read, and the letter k is expected next; j - k is the length of the Lyndon word that they repeat
-
-pub record Scan (s : List ℕ) (j k : ℕ) : Type 0 where
-  pub order : k < j
-  pub inside : j ≤ length s
-  pub word : Lyndon (take (j - k) s)
-  pub over : Over (take (j - k) s) (take k s) (getD s k 0)
-  pub made : take j s ≡ take (j - k) s ++ take k s
 
 from-front : (s : List ℕ) (n : ℕ) → 0 < n → n ≤ length s → Over (take n s) [] (getD s 0 0)
 from-front [] n h l = absurd (omega arith)
@@ -118,3 +110,11 @@ scan-take s n j k h l a =
       over = rw (u, v, getD-take n s k 0 (omega arith)) (a .over);
       made = take-take j n s h ∙ a .made ∙ rw (u, v);
     }
+
+-- the letters read tell which letter is expected
+pub scan-one : (s : List ℕ) (j k i : ℕ) → Scan s j k → Scan s j i → k ≡ i
+scan-one s j k i a b =
+    let n : length (take j s) ≡ j = length-take-le j s (a .inside) in
+    let x = scan-end (take j s) j k (scan-take s j j k (omega arith) (a .inside) a) (λ l. absurd (omega arith)) .first in
+    let y = scan-end (take j s) j i (scan-take s j j i (omega arith) (b .inside) b) (λ l. absurd (omega arith)) .first in
+    omega (arith, a .order, b .order)

@@ -11,6 +11,7 @@ use Rattle.words.specs.Order.{_≪_}
 use Rattle.words.specs.Ring.{IsStart}
 use Rattle.words.specs.Lyndon.{Lyndon}
 use Rattle.words.specs.Factor.{longest}
+pub use Rattle.words.specs.Start.{Tail, Chain, new, good, bad}
 use Rattle.words.proofs.Search.{either, lt-or-ge}
 use Rattle.words.proofs.Order.{irrefl, lt-le, decided-more, decided-left, decided-under, prefix-before}
 use Rattle.words.proofs.Lyndon.{word-below}
@@ -21,13 +22,19 @@ use Rattle.words.proofs.Chain.{Above, first-copy, second-copy}
 
 -- ---- a word one u longer is tested alike
 
-ok-more : {t a : List ℕ} (u : List ℕ) → Ok t a → Ok t (a ++ u)
+pub ok-more : {t a : List ℕ} (u : List ℕ) → Ok t a → Ok t (a ++ u)
 ok-more {t} u (low d) = low (rw append-nil at (decided-more [] u d))
 ok-more {t} u (front y e) = front (y ++ u) (rw e (append-assoc t y u))
 
-not-more : {t a : List ℕ} (u : List ℕ) → ((y : List ℕ) → t ≡ a ++ y → 0 < length y → u ≪ y) → Not t a → Not t (a ++ u)
+pub not-more : {t a : List ℕ} (u : List ℕ) → ((y : List ℕ) → t ≡ a ++ y → 0 < length y → u ≪ y) → Not t a → Not t (a ++ u)
 not-more u f (high d) = high (decided-left u d)
 not-more {a = a} u f (beyond y e l) = high (rw e (decided-under a (f y e l)))
+
+-- what ends a Lyndon word is above it, whatever follows it
+pub suffix-above : (u r a z : List ℕ) (i : ℕ) → Lyndon u → 0 < i → drop i u ≡ a ++ z → 0 < length z → u ++ r ≪ z
+suffix-above u r a z i y p q n =
+    let d : drop (i + length a) u ≡ z = sym (drop-drop (length a) i u) ∙ ap (drop (length a)) q ∙ drop-append-seam a z in
+    rw (append-nil, d) at (word-below (i + length a) r [] y (omega arith) (omega (arith, length-drop (i + length a) u, ap length d)))
 
 -- the proper ends of the Lyndon words that are prefixes of s, up to length n, are tested against a as against b
 pub record Agrees (s a b : List ℕ) (n : ℕ) : Type 0 where
@@ -36,21 +43,6 @@ pub record Agrees (s a b : List ℕ) (n : ℕ) : Type 0 where
 
 pub agrees-same : (s a : List ℕ) (n : ℕ) → Agrees s a a n
 agrees-same s a n = record { ok = λ k i h y p o. o; no = λ k i h y p o. o }
-
--- the first l letters of s are a Lyndon word u, once or more, and then v, with u = v t
-pub record Tail (s : List ℕ) (l : ℕ) (u v t : List ℕ) (e : ℕ) : Type 0 where
-  pub inside : l ≤ length s
-  pub word : Lyndon u
-  pub front : take (length u) s ≡ u
-  pub cut : u ≡ v ++ t
-  pub some : 0 < length v
-  pub whole : take l s ≡ power (suc e) u ++ v
-
--- how far behind the head the start is, by the tests against b
-pub data Chain (s b : List ℕ) : ℕ → ℕ → Type 0 where
-  new : {l : ℕ} → l ≤ length s → Lyndon (take l s) → Chain s b l 0
-  good : {l e : ℕ} {u v t : List ℕ} → Tail s l u v t e → Ok t b → Chain s b l 0
-  bad : {l e k n : ℕ} {u v t : List ℕ} → Tail s l u v t e → Not t b → take k s ≡ power e u ++ v → k ≤ l → Chain s b k n → Chain s b l (length u + n)
 
 -- of copies of u and then a part or the whole of u, u is the longest Lyndon prefix
 power-longest : (e : ℕ) (u v t x : List ℕ) → Lyndon u → u ≡ v ++ t → x ≡ power (suc e) u ++ v → longest x ≡ length u
@@ -80,9 +72,7 @@ module _ (s : List ℕ) (l e : ℕ) (u v t : List ℕ) (r : Tail s l u v t e) wh
   ends-above a j i m y p z q n =
       let x : List ℕ = take j s in
       let f : u ≡ x ++ drop j u = sym (take-append-drop j u) ∙ ap (λ c. c ++ drop j u) (ap (take j) (sym (r .front)) ∙ take-take j (length u) s m) in
-      let d : drop (i + length a) x ≡ z = sym (drop-drop (length a) i x) ∙ ap (drop (length a)) q ∙ drop-append-seam a z in
-      let o = word-below (i + length a) (drop j u) [] y (omega arith) (omega (arith, length-drop (i + length a) x, ap length d)) in
-      rw f (rw (append-nil, d) at o)
+      rw f (suffix-above x (drop j u) a z i y p q n)
 
   -- the tests against b, for a
   test-ok : (a b : List ℕ) → Agrees s a b l → Ok t b → Ok t a

@@ -10,3 +10,7 @@ pub mod Prefix
 pub mod Repeat
 pub mod Duel
 pub mod Table
+pub mod Block
+pub mod Start
+pub mod Match
+pub mod Mark

@@ -1,0 +1,64 @@
+-- `ring::periods::repeat` meets its contract.
+-- Assumes nothing.
+use mathlib.Core.Path.{sym, _∙_}
+use native.Mathlib.Omega.{arith}
+use Rattle.ring.proofs.Judging.{refused}
+use Rattle.ring.proofs.Exactly.{taken-fits}
+use borrow.Author.Needs.{needs}
+use Rattle.ring.proofs.periods.repeat.Statement.{statement}
+use Rattle.ring.proofs.periods.repeat.Tie as tie
+
+judge-requires : tie.Need-judge-requires
+judge-requires c κs = search needs
+
+enum-told : tie.Need-enum-told
+enum-told c = search needs
+
+number-of-requires : tie.Need-number-of-requires
+number-of-requires c κs = search needs
+
+place-of-requires : tie.Need-place-of-requires
+place-of-requires c κs = search needs
+
+returns : tie.Need-returns
+returns c =
+    let e = c .before .before .before .judge .ensures in
+    let r = refused (c .before .before .before .judge .result) (c .before .before .match .keys2) in
+    rw (← e, r) (cc)
+
+slice-aggregate-match-lengths : tie.Need-slice-aggregate-match-lengths
+slice-aggregate-match-lengths c = search needs
+
+match-lengths-requires : tie.Need-match-lengths-requires
+match-lengths-requires c κs =
+    let f = taken-fits _ _ _ (sym (c .before .before .before .judge .ensures) ∙ c .before .enum-told .given .1) in
+    (f .0 .some, omega (arith, f .0 .within), f .0 .within)
+
+slice-aggregate-first-period : tie.Need-slice-aggregate-first-period
+slice-aggregate-first-period c = search needs
+
+first-period-requires : tie.Need-first-period-requires
+first-period-requires c κs =
+    let f = taken-fits _ _ _ (sym (c .before .before .before .before .before .before .judge .ensures) ∙ c .before .before .before .before .enum-told .given .1) in
+    let m = c .before .before .match-lengths .ensures in
+    (f .0 .some, f .0 .within, omega (arith, f .0 .within, m .1 .size), m .0)
+
+returns-2 : tie.Need-returns-2
+returns-2 c =
+    let e = sym (c .before .before .before .before .before .before .before .judge .ensures) ∙ c .before .before .before .before .before .enum-told .given .1 in
+    rw e (cc)
+
+pub repeat-spec : {M : Type 1} → statement M
+repeat-spec =
+    tie.close
+    (tie.spec
+    judge-requires
+    enum-told
+    number-of-requires
+    place-of-requires
+    returns
+    slice-aggregate-match-lengths
+    match-lengths-requires
+    slice-aggregate-first-period
+    first-period-requires
+    returns-2)

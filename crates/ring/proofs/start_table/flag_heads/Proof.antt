@@ -1,0 +1,95 @@
+-- `start_table::flag_heads` meets its contract. The invariant: the heads so far are flagged.
+-- Assumes nothing.
+use mathlib.Core.List.{List}
+use mathlib.Core.Path.{_≡_}
+use Prim.Native.Nat.{ℕ, _-_}
+use native.Mathlib.Omega.{arith}
+use borrow.Author.Needs.{needs}
+use lib.ListN.{take, drop, length-drop, length}
+use lib.Seq.{take-all}
+use Rattle.words.specs.Factor.{FirstRun}
+use Rattle.words.proofs.Factor.{run-within}
+use Rattle.words.proofs.StartTable.{Flagging, flagging-none, flagging-low, flagging-next, flagged-head, run-some}
+use Rattle.ring.proofs.start_table.flag_heads.Statement.{statement}
+use Rattle.ring.proofs.start_table.flag_heads.Tie as tie
+
+whole : (w : List ℕ) (m p e : ℕ) → FirstRun (take (length w - m) (drop m w)) p e → FirstRun (drop m w) p e
+whole w m p e r = rw (take-all (length w - m) (drop m w) (omega (arith, length-drop m w))) at r
+
+abbrev Inv-loop : tie.InvT-loop
+Inv-loop w t₀ m₀ t m = Flagging 8192 w t₀ t m
+
+abbrev μ-loop : tie.MeasureT-loop
+μ-loop w t₀ m₀ t m = length w - m
+
+loop-holds : tie.Need-loop-holds Inv-loop μ-loop
+loop-holds c = flagging-none 8192 _ _
+
+mul-t : tie.Need-mul-t Inv-loop μ-loop
+mul-t c = search needs
+
+slice-read-t : tie.Need-slice-read-t Inv-loop μ-loop
+slice-read-t c = search needs
+
+add-t : tie.Need-add-t Inv-loop μ-loop
+add-t c = let s = c .before .before .before .before .before .pre in omega (arith, flagging-low 8192 _ _ _ _ (s .2) (s .0) (search needs) (c .before .before .loop .inv))
+
+mul-t-2 : tie.Need-mul-t-2 Inv-loop μ-loop
+mul-t-2 c = search needs
+
+slice-write-t : tie.Need-slice-write-t Inv-loop μ-loop
+slice-write-t c = search needs
+
+sub-first-factor : tie.Need-sub-first-factor Inv-loop μ-loop
+sub-first-factor c = search needs
+
+part-first-factor-start : tie.Need-part-first-factor-start Inv-loop μ-loop
+part-first-factor-start c = search needs
+
+part-first-factor-end : tie.Need-part-first-factor-end Inv-loop μ-loop
+part-first-factor-end c = search needs
+
+first-factor-requires : tie.Need-first-factor-requires Inv-loop μ-loop
+first-factor-requires c κs = search needs
+
+add-m : tie.Need-add-m Inv-loop μ-loop
+add-m c = omega (arith, run-within _ _ _ (whole (c .before .before .before .before .before .before .before .before .args .w .now) _ _ _ (c .before .first-factor .ensures)), length-drop (c .before .before .before .before .before .loop .m) (c .before .before .before .before .before .before .before .before .args .w .now))
+
+loop-less : tie.Need-loop-less Inv-loop μ-loop
+loop-less c = omega (arith, run-some _ _ _ (c .before .first-factor .ensures))
+
+loop-again : tie.Need-loop-again Inv-loop μ-loop
+loop-again c =
+    let s = c .before .before .before .before .before .before .before .before .pre in
+    flagging-next 8192 _ _ _ _ (s .2) (s .0) (search needs) (c .before .before .before .before .before .loop .inv) (s .1) _ _ (whole (c .before .before .before .before .before .before .before .before .args .w .now) _ _ _ (c .before .first-factor .ensures))
+
+same-length : tie.Need-same-length Inv-loop μ-loop
+same-length c = search needs
+
+returns : tie.Need-returns Inv-loop μ-loop
+returns c =
+    let i = c .before .loop .inv in
+    let e : c .before .loop .m ≡ length (c .before .before .before .before .args .w .now) = omega (arith, flagged-head (i .flags) .within) in
+    (rw e at (i .flags), i .kept)
+
+pub flag-heads-spec : {M : Type 1} → statement M
+flag-heads-spec =
+    tie.close
+    (tie.spec
+    Inv-loop
+    μ-loop
+    loop-holds
+    mul-t
+    slice-read-t
+    add-t
+    mul-t-2
+    slice-write-t
+    sub-first-factor
+    part-first-factor-start
+    part-first-factor-end
+    first-factor-requires
+    add-m
+    loop-less
+    loop-again
+    same-length
+    returns)

@@ -1,0 +1,122 @@
+-- `start_table::mark_for` meets its contract: each way out is one of the tests of `Rattle.words.proofs.StartMark`.
+-- Assumes nothing.
+use mathlib.Core.Path.{sym}
+use Prim.Native.Nat.{_+_, _-_}
+use native.Mathlib.Omega.{arith}
+use borrow.Author.Needs.{needs}
+use lib.ListN.{getD}
+use Rattle.words.proofs.StartMark.{unmark-le, judged-far, judged-far-not, judged-whole, judged-reach, judged-low, judged-high}
+use Rattle.ring.proofs.start_table.mark_for.Statement.{statement}
+use Rattle.ring.proofs.start_table.mark_for.Tie as tie
+
+add-if1 : tie.Need-add-if1
+add-if1 c = search needs
+
+add-if1-2 : tie.Need-add-if1-2
+add-if1-2 c = search needs
+
+sub-if1 : tie.Need-sub-if1
+sub-if1 c = search needs
+
+sub-if2 : tie.Need-sub-if2
+sub-if2 c = search needs
+
+mul-if2 : tie.Need-mul-if2
+mul-if2 c = search needs
+
+shared-slice-read-if2 : tie.Need-shared-slice-read-if2
+shared-slice-read-if2 c = search needs
+
+returns : tie.Need-returns
+returns c = judged-far 8192 _ _ _ _ _ (c .before .before .before .before .before .pre .1 .0) (search needs) (c .before .before .before .before .before .pre .1 .1) (c .before .before .if1 .taken) (c .if2 .taken)
+
+returns-2 : tie.Need-returns-2
+returns-2 c = judged-far-not 8192 _ _ _ _ _ (c .before .before .before .before .before .pre .1 .0) (search needs) (c .before .before .before .before .before .pre .1 .1) (c .before .before .if1 .taken) (c .if2 .left)
+
+add-if3 : tie.Need-add-if3
+add-if3 c = search needs
+
+add-if3-2 : tie.Need-add-if3-2
+add-if3-2 c = search needs
+
+sub-if3 : tie.Need-sub-if3
+sub-if3 c = search needs
+
+returns-3 : tie.Need-returns-3
+returns-3 c = judged-whole 8192 _ _ _ _ _ (c .before .before .before .before .pre .1 .0) (search needs) (c .before .before .before .before .pre .1 .1) (c .before .if1 .left) (sym (c .if3 .taken))
+
+add-unmarked : tie.Need-add-unmarked
+add-unmarked c = search needs
+
+sub-unmarked : tie.Need-sub-unmarked
+sub-unmarked c = search needs
+
+mul-unmarked : tie.Need-mul-unmarked
+mul-unmarked c = search needs
+
+shared-slice-read-unmarked : tie.Need-shared-slice-read-unmarked
+shared-slice-read-unmarked c = search needs
+
+unmarked-requires : tie.Need-unmarked-requires
+unmarked-requires c κs = search needs
+
+add-i : tie.Need-add-i
+add-i c = search needs
+
+sub-i : tie.Need-sub-i
+sub-i c = search needs
+
+add-i-2 : tie.Need-add-i-2
+add-i-2 c =
+    let a = c .before .before .before .before .before .before .args in
+    let i = a .l + 1 - a .p in
+    omega (arith, c .unmarked .ensures, unmark-le 8192 (getD (a .t .now) i 0), c .before .shared-slice-known4 .given i)
+
+add-if4 : tie.Need-add-if4
+add-if4 c = search needs
+
+returns-4 : tie.Need-returns-4
+returns-4 c = judged-reach 8192 _ _ _ _ _ (c .before .before .before .before .before .before .before .pre .1 .0) (search needs) (c .before .before .before .before .before .before .before .pre .1 .1) (c .before .before .before .before .if1 .left) _ (c .before .unmarked .ensures) (search needs) (c .if4 .taken)
+
+shared-slice-read-if5 : tie.Need-shared-slice-read-if5
+shared-slice-read-if5 c = search needs
+
+shared-slice-read-if5-2 : tie.Need-shared-slice-read-if5-2
+shared-slice-read-if5-2 c = search needs
+
+returns-5 : tie.Need-returns-5
+returns-5 c = judged-low 8192 _ _ _ _ _ (c .before .before .before .before .before .before .before .before .before .before .pre .1 .0) (search needs) (c .before .before .before .before .before .before .before .before .before .before .pre .1 .1) (c .before .before .before .before .before .before .before .if1 .left) _ (c .before .before .before .before .unmarked .ensures) (search needs) (c .before .before .before .if4 .left) (c .if5 .taken)
+
+returns-6 : tie.Need-returns-6
+returns-6 c = judged-high 8192 _ _ _ _ _ (c .before .before .before .before .before .before .before .before .before .before .pre .1 .0) (search needs) (c .before .before .before .before .before .before .before .before .before .before .pre .1 .1) (c .before .before .before .before .before .before .before .if1 .left) _ (c .before .before .before .before .unmarked .ensures) (search needs) (c .before .before .before .if4 .left) (c .if5 .left)
+
+pub mark-for-spec : {M : Type 1} → statement M
+mark-for-spec =
+    tie.close
+    (tie.spec
+    add-if1
+    add-if1-2
+    sub-if1
+    sub-if2
+    mul-if2
+    shared-slice-read-if2
+    returns
+    returns-2
+    add-if3
+    add-if3-2
+    sub-if3
+    returns-3
+    add-unmarked
+    sub-unmarked
+    mul-unmarked
+    shared-slice-read-unmarked
+    unmarked-requires
+    add-i
+    sub-i
+    add-i-2
+    add-if4
+    returns-4
+    shared-slice-read-if5
+    shared-slice-read-if5-2
+    returns-5
+    returns-6)

@@ -1,0 +1,150 @@
+// The start table in linear time. The table holds the match lengths first; heads are flagged and entries marked by adding to them.
+// Each block, from the last to the first, is marked and then filled with its starts.
+ghost use mathlib.Core.Path.{_≡_};
+ghost use mathlib.Core.List.{_++_};
+ghost use Prim.Native.Nat.{_+_, _-_, _<_, _≤_};
+ghost use lib.ListN.{length, take, drop, getD};
+ghost use Rattle.words.specs.Prefix.{startTable};
+ghost use Rattle.words.specs.Match.{MatchTable, Kept};
+ghost use Rattle.words.specs.Block.{Head, Block};
+ghost use Rattle.ring.specs.Answers.{filledOf, startsTable};
+ghost use Rattle.words.specs.Mark.{Flagged, unmark, Judged, Outside, Fresh, Marking, Marked, Done};
+use super::answer::Filled;
+use super::judge::Verdict;
+
+// A head's entry has this added; no match length and no start reaches it.
+const HEAD: u16 = 8192;
+
+// An entry has this added where the start is the block's head; no flagged entry reaches it.
+const MARK: u16 = 16384;
+
+// Flags the heads.
+fn flag_heads(w: &[u8], t: &mut [u16])
+    requires { ⌜ (length (now w) ≤ 8192) × (length (now w) ≤ length (now t)) × MatchTable (now w) (now t) ⌝ }
+    ensures { λ _. ⌜ Flagged 8192 (now (w .entry)) (now (t .exit)) (length (now (w .entry))) × Kept (length (now (w .entry))) (now (t .entry)) (now (t .exit)) ⌝ }
+{
+    let mut m: usize = 0;
+    while m < w.len() {
+        t[m] = t[m] + HEAD;
+        let run = super::factor::first_factor(&w[m..]);
+        m += run.end;
+    }
+}
+
+// An entry without its mark.
+fn unmarked(v: u16) -> usize
+    ensures { λ r. ⌜ r ≡ unmark 8192 v ⌝ }
+{
+    if MARK <= v {
+        (v - MARK) as usize
+    } else {
+        v as usize
+    }
+}
+
+// What to add to entry `l` of the block from `m`, where letter `l` goes on the word of `p` letters.
+fn mark_for(w: &[u8], t: &[u16], m: usize, p: usize, l: usize) -> u16
+    requires { ⌜ (l < length (now w)) × (length (now w) ≤ 8192) × (length (now w) ≤ length (now t)) ⌝ }
+    requires { ⌜ Marking 8192 (now w) (now t) m p l × Block (now w) m p (l + 1) ⌝ }
+    ensures { λ r. ⌜ Judged 8192 (drop m (now (w .entry))) (take m (now (w .entry))) (l + 1 - m) r ⌝ }
+{
+    if p + p < l + 1 - m {
+        if MARK <= t[l - p] {
+            return MARK;
+        }
+        return 0;
+    }
+    if p + p == l + 1 - m {
+        return MARK;
+    }
+    let z = unmarked(t[l + 1 - p]);
+    let i = l + 1 - p + z;
+    if m + p <= i {
+        return MARK;
+    }
+    if w[i] < w[z] {
+        return MARK;
+    }
+    0
+}
+
+// Marks the entries of the block from `m` whose start is `m`, and answers where the block ends.
+fn mark(w: &[u8], t: &mut [u16], m: usize) -> usize
+    requires { ⌜ (m < length (now w)) × (length (now w) ≤ 8192) × (length (now w) ≤ length (now t)) ⌝ }
+    requires { ⌜ Head (now w) m × Fresh 8192 (now w) (now t) m ⌝ }
+    ensures { λ r. ⌜ Marked 8192 (now (w .entry)) (now (t .exit)) m r × Outside (now (t .entry)) (now (t .exit)) m r ⌝ }
+{
+    t[m] = MARK;
+    let mut p: usize = 1;
+    let mut l: usize = m + 1;
+    while l < w.len() {
+        if w[l] < w[l - p] {
+            break;
+        }
+        let mut a = MARK;
+        if w[l - p] < w[l] {
+            p = l + 1 - m;
+        } else {
+            a = mark_for(w, t, m, p, l);
+        }
+        t[l] = t[l] + a;
+        l += 1;
+    }
+    l
+}
+
+// Turns the marks of the block from `m` to `end` into starts.
+fn resolve(w: &[u8], t: &mut [u16], m: usize, end: usize)
+    requires { ⌜ (length (now w) ≤ 8192) × (length (now w) ≤ length (now t)) × Marked 8192 (now w) (now t) m end ⌝ }
+    ensures { λ _. ⌜ Done (now (w .entry)) (now (t .entry)) (now (t .exit)) m end ⌝ }
+{
+    t[m] = m as u16;
+    let mut p: usize = 1;
+    let mut l: usize = m + 1;
+    while l < end {
+        let mut start = m;
+        if w[l - p] < w[l] {
+            p = l + 1 - m;
+        } else if t[l] < MARK {
+            start = t[l - p] as usize + p;
+        }
+        t[l] = start as u16;
+        l += 1;
+    }
+}
+
+// Writes for each prefix of `w` the start of the ring made of it alone.
+fn fill_starts(w: &[u8], t: &mut [u16])
+    requires { ⌜ (0 < length (now w)) × (length (now w) ≤ 8192) × (length (now w) ≤ length (now t)) ⌝ }
+    ensures { λ _. ⌜ now (t .exit) ≡ startTable (now (w .entry)) ++ drop (length (now (w .entry))) (now (t .entry)) ⌝ }
+{
+    super::matches::match_lengths(w, t);
+    flag_heads(w, t);
+    let mut c = w.len();
+    while 0 < c {
+        c -= 1;
+        if HEAD <= t[c] {
+            let end = mark(w, t, c);
+            resolve(w, t, c, end);
+        }
+    }
+}
+
+// The start of the ring made of each prefix alone, in the table's first n entries.
+pub fn starts(ring: &[u8], kind: u8, table: &mut [u16]) -> Filled
+    ensures { λ r. ⌜ r ≡ filledOf kind (now (ring .entry)) (length (now (table .entry))) ⌝ }
+    ensures { λ _. ⌜ now (table .exit) ≡ startsTable kind (now (ring .entry)) (now (table .entry)) ⌝ }
+{
+    let v = super::judge::judge(ring, kind, table.len() < ring.len());
+    let Verdict::Taken = v else {
+        return Filled {
+            number: super::judge::number_of(v),
+            place: super::judge::place_of(v),
+        };
+    };
+    fill_starts(ring, table);
+    Filled {
+        number: 0,
+        place: 0,
+    }
+}

@@ -1,0 +1,34 @@
+-- A block of a word: from a head on, a Lyndon word stands over and over (001, section 2). What code that reads it letter by letter knows.
+-- Assumes nothing.
+use mathlib.Core.Path.{_≡_}
+use mathlib.Core.List.{List, _∷_, _++_}
+use Prim.Native.Nat.{ℕ, _≤_, _<_, _+_, _-_}
+use lib.ListN.{length, take, drop, getD}
+use Rattle.words.specs.Order.{_≺_}
+use Rattle.words.specs.Lyndon.{Lyndon}
+
+-- v is u over and over, the last time in part, and then u goes on with the letter b
+pub data Over (u : List ℕ) : List ℕ → ℕ → Type 0 where
+  part : {v : List ℕ} {b : ℕ} (s : List ℕ) → u ≡ v ++ (b ∷ s) → Over u v b
+  again : {v : List ℕ} {b : ℕ} → Over u v b → Over u (u ++ v) b
+
+-- j letters are read, and the letter k is expected next; j - k is the length of the Lyndon word that they repeat
+pub record Scan (s : List ℕ) (j k : ℕ) : Type 0 where
+  pub order : k < j
+  pub inside : j ≤ length s
+  pub word : Lyndon (take (j - k) s)
+  pub over : Over (take (j - k) s) (take k s) (getD s k 0)
+  pub made : take j s ≡ take (j - k) s ++ take k s
+
+-- no suffix of a longer prefix that begins before m is least
+pub record Head (w : List ℕ) (m : ℕ) : Type 0 where
+  pub within : m ≤ length w
+  pub low : (k i : ℕ) → 0 < k → m + k ≤ length w → i < m → take k (drop m w) ≺ drop i (take (m + k) w)
+
+-- m is a head, and from m to l a Lyndon word of length p stands over and over
+pub record Block (w : List ℕ) (m p l : ℕ) : Type 0 where
+  pub head : Head w m
+  pub some : 0 < p
+  pub order : m + p ≤ l
+  pub inside : l ≤ length w
+  pub scan : Scan (drop m w) (l - m) (l - m - p)

@@ -3,3 +3,5 @@ pub mod Laid
 pub mod Spacing
 pub mod Routing
 pub mod Exactly
+pub mod Numbers
+pub mod Determined

@@ -3,6 +3,7 @@ mod answer;
 mod factor;
 mod judge;
 mod reading;
+mod strand;
 
 pub use answer::Checked;
 pub use answer::Compared;

@@ -1,2 +1,4 @@
 pub mod Judging
+pub mod Equal
 pub mod Rooms
+pub mod Written

@@ -1,12 +1,13 @@
 -- A room written from its front, one entry after another or one part behind another.
 -- Assumes nothing.
 use mathlib.Core.Path.{_≡_, refl, sym, ap, _∙_}
-use mathlib.Core.List.{List, _∷_, _++_}
-use Prim.Native.Nat.{ℕ, suc, _≤_, _<_, _+_}
+use mathlib.Core.List.{List, [], _∷_, _++_, append-nil, append-assoc}
+use Prim.Native.Nat.{ℕ, suc, _≤_, _<_, _+_, _-_}
 use native.Mathlib.Omega.{arith}
 use native.Mathlib.Numerals.{add-one}
-use lib.ListN.{length, take, drop, getD, set, length-set}
-use lib.Seq.{drop-cons, set-at, append-snoc, take-suc, take-all, length-take-le}
+use borrow.Rule.Slice.PartMut.{putMid}
+use lib.ListN.{length, take, drop, getD, set, length-set, length-append, length-drop, drop-of-length-le}
+use lib.Seq.{drop-cons, set-at, append-snoc, take-suc, take-all, take-at, drop-at, drop-drop, length-take-le}
 use Rattle.ring.specs.Judging.{over}
 
 -- of a room that was `old`, the first i entries of `new` are written
@@ -40,3 +41,19 @@ pub partly-all : (new old room : List ℕ) (i : ℕ) → Partly new old room i �
 partly-all new old room i p h =
     let e : i ≡ length new = omega (arith, p .within) in
     p .same ∙ rw (e, take-all (length new) new (omega arith))
+
+-- ---- two parts, one behind the other
+
+pub length-over : (new old : List ℕ) → length new ≤ length old → length (over new old) ≡ length old
+length-over new old h = rw (length-append, length-drop) (omega arith)
+
+-- the room after the first part, and its back after the second
+pub over-two : (a b old one two : List ℕ) (k : ℕ) → length a ≡ k → one ≡ over a old → two ≡ over b (take (length one - k) (drop k one))
+    → putMid k (length one - k) one two ≡ over (a ++ b) old
+over-two a b old one two k n e f =
+    let back : drop k one ≡ drop k old = ap (drop k) e ∙ drop-at a (drop (length a) old) k n ∙ ap (λ i. drop i old) n in
+    let whole : take (length one - k) (drop k one) ≡ drop k old = take-all (length one - k) (drop k one) (rw length-drop (omega arith)) ∙ back in
+    let none : drop (length one - k) (drop k one) ≡ [] = drop-of-length-le (drop k one) {i = length one - k} (rw length-drop (omega arith)) in
+    let front : take k one ≡ a = ap (take k) e ∙ take-at a (drop (length a) old) k n in
+    let tail : two ≡ b ++ drop (length (a ++ b)) old = f ∙ ap (over b) whole ∙ ap (λ x. b ++ x) (drop-drop (length b) k old ∙ ap (λ i. drop i old) (sym (length-append a b ∙ ap (λ i. i + length b) n))) in
+    rw (front, none, append-nil, tail, append-assoc)

@@ -3,6 +3,7 @@ mod answer;
 mod factor;
 mod judge;
 mod reading;
+mod start;
 mod strand;
 
 pub use answer::Checked;
@@ -13,3 +14,4 @@ pub use answer::Fought;
 pub use answer::Marked;
 pub use answer::Repeated;
 pub use judge::check;
+pub use reading::write_reading;

@@ -1,4 +1,7 @@
 pub mod Judging
+pub mod Taken
 pub mod Equal
 pub mod Rooms
 pub mod Written
+pub mod Marks
+pub mod Keyed

@@ -2,6 +2,7 @@
 mod answer;
 mod factor;
 mod judge;
+mod key;
 mod reading;
 mod start;
 mod strand;
@@ -14,4 +15,6 @@ pub use answer::Fought;
 pub use answer::Marked;
 pub use answer::Repeated;
 pub use judge::check;
+pub use key::mark;
+pub use key::write_key;
 pub use reading::write_reading;

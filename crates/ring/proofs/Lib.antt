@@ -1,7 +1,12 @@
 pub mod Judging
 pub mod Taken
+pub mod Permits
 pub mod Equal
 pub mod Rooms
 pub mod Written
 pub mod Marks
 pub mod Keyed
+pub mod KeyPart
+pub mod KeyFit
+pub mod KeyTests
+pub mod Compared

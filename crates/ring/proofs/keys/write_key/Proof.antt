@@ -1,4 +1,4 @@
--- `ring::key::write_key` meets its contract.
+-- `ring::keys::write_key` meets its contract.
 -- Assumes nothing.
 use borrow.Author.Needs.{needs}
 use mathlib.Core.Path.{_≡_, sym, ap, _∙_}
@@ -7,22 +7,22 @@ use lib.ListN.{length}
 use Rattle.words.proofs.Strand.{length-opposite}
 use Rattle.words.specs.Strand.{opposite}
 use Rattle.ring.specs.declared.judge.Verdict.the-variants.{Taken}
-use Rattle.ring.specs.declared.key.Strands.{Strands}
+use Rattle.ring.specs.declared.keys.Strands.{Strands}
 use Rattle.ring.specs.Judging.{verdict}
 use Rattle.ring.specs.Answers.{keyVerdict}
 use Rattle.ring.proofs.Taken.{not-taken}
 use Rattle.ring.proofs.Marks.{start-within}
 use Rattle.ring.proofs.Keyed.{key-permitted, first-fits, second-fits, keyed-refused, keyed-plain, keyed-stranded}
-use Rattle.ring.proofs.key.write_key.Statement.{statement}
-use Rattle.ring.proofs.key.write_key.Tie as tie
-use Rattle.ring.proofs.key.write_key.Reads as reads
-use Rattle.ring.proofs.key.write_key.Lts as lts
+use Rattle.ring.proofs.keys.write_key.Statement.{statement}
+use Rattle.ring.proofs.keys.write_key.Tie as tie
+use Rattle.ring.proofs.keys.write_key.Reads as reads
+use Rattle.ring.proofs.keys.write_key.Lts as lts
 use Rattle.ring.proofs.judge.has_strands.Reads as has-strands-reads
 use Rattle.ring.proofs.judge.judge.Reads as judge-reads
-use Rattle.ring.proofs.key.chosen.Reads as chosen-reads
-use Rattle.ring.proofs.key.read_strands.Reads as read-strands-reads
-use Rattle.ring.proofs.key.refused.Reads as refused-reads
-use Rattle.ring.proofs.key.short_rooms.Reads as short-rooms-reads
+use Rattle.ring.proofs.keys.chosen.Reads as chosen-reads
+use Rattle.ring.proofs.keys.read_strands.Reads as read-strands-reads
+use Rattle.ring.proofs.keys.refused.Reads as refused-reads
+use Rattle.ring.proofs.keys.short_rooms.Reads as short-rooms-reads
 use Rattle.ring.proofs.reading.put_opposite.Reads as put-opposite-reads
 use Rattle.ring.proofs.reading.put_reading.Reads as put-reading-reads
 use Rattle.ring.proofs.start.start_of.Reads as start-of-reads

@@ -1,12 +1,12 @@
--- `ring::key::read_strands` meets its contract: the opposite strand stands at the front of a room of its own.
+-- `ring::keys::read_strands` meets its contract: the opposite strand stands at the front of a room of its own.
 -- Assumes nothing.
 use borrow.Author.Needs.{needs}
 use mathlib.Core.Path.{refl}
 use mathlib.Core.Bool.{true, false}
 use Rattle.ring.proofs.Marks.{start-within, in-room, in-room-length, strands-by}
 use mathlib.Core.Path.{sym, _∙_}
-use Rattle.ring.proofs.key.read_strands.Statement.{statement}
-use Rattle.ring.proofs.key.read_strands.Tie as tie
+use Rattle.ring.proofs.keys.read_strands.Statement.{statement}
+use Rattle.ring.proofs.keys.read_strands.Tie as tie
 
 slice-aggregate-copy-opposite : tie.Need-slice-aggregate-copy-opposite
 slice-aggregate-copy-opposite c = search needs

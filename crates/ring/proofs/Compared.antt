@@ -1,30 +1,25 @@
 -- The comparison: the keys agree just when the lowest readings do, on one strand or the other; and what is answered by the two verdicts.
 -- Assumes nothing.
 use mathlib.Core.Path.{_≡_, refl, sym, ap, _∙_}
-use mathlib.Core.Logic.{_⊎_, inl, inr, _↔_}
+use mathlib.Core.Logic.{inl, inr, _↔_}
 use mathlib.Core.Bool.{Bool, true, false, true≢false}
 use mathlib.Core.List.{List}
 use Prim.Native.Nat.{ℕ, _<_}
-use native.Mathlib.Omega.{arith}
-use lib.Dec.{eqb}
 use lib.ListN.{length}
 use Rattle.words.specs.Kind.{stranded}
 use Rattle.words.specs.Ring.{reading, start, lowest}
 use Rattle.words.specs.Strand.{opposite, onStrand, strand, key, OneRing}
 use Rattle.words.proofs.Search.{either, by-test}
-use Rattle.words.proofs.Strand.{length-opposite}
+use Rattle.words.proofs.Strand.{length-strand}
 use Rattle.words.proofs.TurnBack.{length-lowest}
 use Rattle.words.proofs.Molecule.{one-key, one-ring, one-lowest, lowest-one}
 use Rattle.ring.specs.declared.judge.Verdict.{Verdict}
 use Rattle.ring.specs.declared.judge.Verdict.the-variants.{Taken}
 use Rattle.ring.specs.declared.answer.Compared.{Compared}
 use Rattle.ring.specs.Judging.{Permitted, verdict, taken, numberOf, placeOf}
-use Rattle.ring.specs.Answers.{equal, sameKey, comparedAs, comparedOf}
+use Rattle.ring.specs.Answers.{equal, sameKey, comparedOf}
 use Rattle.ring.proofs.Taken.{permitted-taken}
 use Rattle.ring.proofs.Equal.{equal-true, equal-same, equal-false}
-
-length-strand : (s : ℕ) (w : List ℕ) → length (onStrand s w) ≡ length w
-length-strand s w = by-test (eqb s 1) (λ t. rw t (length-opposite w)) (λ t. rw t)
 
 length-key : (kind : ℕ) (w : List ℕ) → 0 < length w → length (key kind w) ≡ length w
 unfolding key

@@ -1,7 +1,7 @@
 -- Letters, start and strand that some permitted ring has for its key: exactly those that fit, in the terms of a linear test.
 -- Assumes nothing.
 use mathlib.Core.Path.{_≡_, refl, sym, ap, _∙_}
-use mathlib.Core.Bool.{Bool, true, false, cond, not, _&&_, true≢false}
+use mathlib.Core.Bool.{Bool, true, false, _&&_, true≢false}
 use mathlib.Core.List.{List}
 use Prim.Native.Nat.{ℕ, _≤_, _<_, _-_}
 use native.Mathlib.Omega.{arith}
@@ -15,7 +15,7 @@ use Rattle.words.specs.Ring.{reading, start, lowest}
 use Rattle.words.specs.Strand.{opposite, onStrand, strand, keyStart, key}
 use Rattle.words.specs.Repeat.{ringRepeat}
 use Rattle.words.proofs.Search.{either, by-test}
-use Rattle.words.proofs.Strand.{opposite-twice, length-opposite}
+use Rattle.words.proofs.Strand.{opposite-twice, length-opposite, strand-twice}
 use Rattle.words.proofs.TurnBack.{start-of-lowest, start-low, lowest-opposite, start-back, lowest-back}
 use Rattle.ring.specs.Judging.{Permitted, verdict, taken}
 use Rattle.ring.specs.Strands.{leftTo}
@@ -97,11 +97,8 @@ module _ (kind : ℕ) (k : List ℕ) (at s : ℕ) where
     named : strand kind (onStrand s back) ≡ s
     named = by-test (stranded kind) one-or-zero (λ t. strand-own (f .plain t))
 
-    strand-twice : onStrand s (onStrand s back) ≡ back
-    strand-twice = by-test (eqb s 1) (λ t. rw t (opposite-twice back)) (λ t. rw t)
-
     there : onStrand (strand kind (onStrand s back)) (onStrand s back) ≡ back
-    there = ap (λ r. onStrand r (onStrand s back)) named ∙ strand-twice
+    there = ap (λ r. onStrand r (onStrand s back)) named ∙ strand-twice s back
 
     pub fit-key : IsKey kind k at s
     unfolding key keyStart

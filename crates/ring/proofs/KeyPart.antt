@@ -6,15 +6,13 @@ use mathlib.Core.List.{List}
 use Prim.Native.Nat.{ℕ, _<_}
 use native.Mathlib.Omega.{arith}
 use borrow.Author.Tests.{eq-eqb, ne-eqb}
-use lib.Dec.{eqb}
 use lib.ListN.{length, take, drop}
 use lib.Seq.{take-at}
 use Rattle.words.specs.Kind.{stranded}
-use Rattle.words.specs.Ring.{start, lowest}
+use Rattle.words.specs.Ring.{lowest}
 use Rattle.words.specs.Strand.{opposite, strand, key}
 use Rattle.words.proofs.Search.{by-test}
-use Rattle.words.proofs.Ring.{start-is}
-use Rattle.words.proofs.Turn.{length-reading}
+use Rattle.words.proofs.TurnBack.{length-lowest}
 use Rattle.words.proofs.Strand.{length-opposite}
 use Rattle.ring.specs.declared.judge.Verdict.{Verdict}
 use Rattle.ring.specs.declared.answer.Marked.{Marked}
@@ -22,10 +20,6 @@ use Rattle.ring.specs.Judging.{taken, over}
 use Rattle.ring.specs.Answers.{keyVerdict, keyedOf, keyPart, inSecond}
 use Rattle.ring.proofs.Taken.{taken-is}
 use Rattle.ring.proofs.Keyed.{Keyed, key-permitted}
-
-length-lowest : (w : List ℕ) → 0 < length w → length (lowest w) ≡ length w
-unfolding lowest
-length-lowest w h = length-reading w (start w) (omega (arith, start-is w h .within))
 
 -- the front of a room that holds a lowest reading
 at-front : (w u room old : List ℕ) → 0 < length u → length u ≡ length w → room ≡ over (lowest u) old → take (length w) room ≡ lowest u

@@ -9,7 +9,6 @@ use borrow.Author.Tests.{eqb-true, eqb-false}
 use lib.Dec.{eqb}
 use lib.ListN.{length}
 use Rattle.words.specs.Kind.{stranded}
-use Rattle.words.specs.Ring.{start}
 use Rattle.words.specs.Factor.{FirstRun}
 use Rattle.words.specs.Repeat.{ringRepeat}
 use Rattle.words.proofs.Search.{by-test}

@@ -23,8 +23,9 @@ use Rattle.ring.specs.Judging.{taken, over}
 use Rattle.ring.specs.Strands.{strandsOf, markedOn, refusedBy, leftTo}
 use Rattle.ring.specs.Answers.{markedAs}
 
-pub start-within : (w : List ℕ) → 0 < length w → start w < length w
-start-within w h = start-is w h .within
+-- a start that is found lies in the ring
+pub found-within : (w : List ℕ) (b : ℕ) → b ≡ start w → 0 < length w → b < length w
+found-within w b e h = rw e (start-is w h .within)
 
 -- ---- the opposite strand in a room of its own
 

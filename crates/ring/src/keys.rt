@@ -28,7 +28,7 @@ pub struct Strands {
 }
 
 // Both strands read; on a tie the key is on strand 0.
-pub fn read_strands(ring: &[u8]) -> Strands
+fn read_strands(ring: &[u8]) -> Strands
     requires { ⌜ (0 < length (now ring)) × (length (now ring) ≤ 8192) ⌝ }
     ensures { λ r. ⌜ r ≡ strandsOf (now (ring .entry)) ⌝ }
 {
@@ -53,7 +53,7 @@ pub fn read_strands(ring: &[u8]) -> Strands
 }
 
 // The marks on the strand that holds the key.
-pub fn chosen(s: Strands, n: usize) -> Marked
+fn chosen(s: Strands, n: usize) -> Marked
     ensures { λ r. ⌜ r ≡ markedOn s n ⌝ }
 {
     if s.strand == 1 {
@@ -75,7 +75,7 @@ pub fn chosen(s: Strands, n: usize) -> Marked
 }
 
 // What is said of a refused ring.
-pub fn refused(v: Verdict) -> Marked
+fn refused(v: Verdict) -> Marked
     ensures { λ r. ⌜ r ≡ refusedBy v ⌝ }
 {
     Marked {

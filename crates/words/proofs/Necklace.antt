@@ -1,23 +1,23 @@
 -- Letters that are their own lowest reading: those that are one run of equal factors; the ring repeat is then the factor's length.
 -- Assumes nothing.
-use mathlib.Core.Path.{_≡_, refl, sym, ap, _∙_}
-use mathlib.Core.List.{List, [], _∷_, _++_, append-nil, append-assoc}
-use Prim.Native.Nat.{ℕ, zero, suc, _≤_, _<_, _+_}
+use mathlib.Core.Path.{_≡_, sym, ap, _∙_}
+use mathlib.Core.List.{List, _++_, append-nil, append-assoc}
+use Prim.Native.Nat.{ℕ, zero, suc, _<_, _+_}
 use native.Mathlib.Omega.{arith}
 use native.Mathlib.Nat.{zero-add}
-use lib.ListN.{length, take, drop, length-append, length-drop, take-append-drop}
+use lib.ListN.{length, take, drop, length-append, length-drop}
 use lib.Seq.{drop-length, drop-append-seam}
-use Rattle.words.specs.Order.{_≺_, _≪_}
+use Rattle.words.specs.Order.{_≺_}
 use Rattle.words.specs.Ring.{reading, start}
 use Rattle.words.specs.Lyndon.{Lyndon}
 use Rattle.words.specs.Factor.{flat, copies, FirstRun}
-use Rattle.words.specs.Repeat.{Turns, IsRingRepeat, ringRepeat}
+use Rattle.words.specs.Repeat.{ringRepeat}
 use Rattle.words.proofs.Search.{either, lt-or-ge}
 use Rattle.words.proofs.Order.{irrefl, before-false, append-left, decided, decided-more, decided-or-prefix}
 use Rattle.words.proofs.Ring.{start-is}
 use Rattle.words.proofs.Turn.{reading-zero}
 use Rattle.words.proofs.Lyndon.{word-below}
-use Rattle.words.proofs.Factor.{run-split, run-within, run-size, run-word}
+use Rattle.words.proofs.Factor.{run-split, run-size, run-word}
 use Rattle.words.proofs.Route.{inside}
 use Rattle.words.proofs.Run.{Best, best-none, best-old, best-last, reading-split}
 use Rattle.words.proofs.RingRepeat.{ring-repeat-one}

@@ -1,15 +1,15 @@
 -- A lowest reading turned back: where its start is, and what stays the same however a ring is turned.
 -- Assumes nothing.
-use mathlib.Core.Path.{_≡_, refl, sym, ap, _∙_}
+use mathlib.Core.Path.{_≡_, sym, ap, _∙_}
 use mathlib.Core.List.{List}
 use Prim.Native.Nat.{ℕ, _≤_, _<_, _+_, _-_, _%_}
 use native.Mathlib.Omega.{arith}
 use native.Mathlib.Nat.{add-comm, mod-lt, mod-self, mod-eq-of-lt}
 use lib.ListN.{length}
 use Rattle.words.specs.Order.{_≼_}
-use Rattle.words.specs.Ring.{reading, start, lowest, IsStart, Lowest}
+use Rattle.words.specs.Ring.{reading, start, lowest, Lowest}
 use Rattle.words.specs.Strand.{opposite}
-use Rattle.words.specs.Repeat.{Turns, IsRingRepeat, ringRepeat}
+use Rattle.words.specs.Repeat.{Turns, ringRepeat}
 use Rattle.words.proofs.Ring.{start-is, start-one}
 use Rattle.words.proofs.Turn.{length-reading, reading-zero, reading-reading, reading-back, lowest-reading}
 use Rattle.words.proofs.Strand.{length-opposite, opposite-reading}

@@ -1,7 +1,7 @@
 -- `ring::comparison::compare` meets its contract.
 -- Assumes nothing.
 use borrow.Author.Needs.{needs}
-use mathlib.Core.Path.{_≡_, sym, _∙_}
+use mathlib.Core.Path.{sym, _∙_}
 use Rattle.ring.proofs.Taken.{not-taken, taken-permitted}
 use Rattle.ring.proofs.Compared.{compared-first, compared-second, compared-done}
 use Rattle.ring.proofs.comparison.compare.Statement.{statement}
@@ -43,7 +43,7 @@ same-key-requires : tie.Need-same-key-requires
 same-key-requires c κs =
     let p = taken-permitted _ _ _ (sym (c .before .before .before .before .before .judge .ensures) ∙ c .before .before .before .enum-told .given .1) .0 in
     let q = taken-permitted _ _ _ (sym (c .before .before .judge2 .ensures) ∙ c .enum-told2 .given .1) .0 in
-    (p .some, p .within, q .some)
+    search needs
 
 returns-3 : tie.Need-returns-3
 returns-3 c =

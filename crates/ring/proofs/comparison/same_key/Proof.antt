@@ -1,12 +1,11 @@
 -- `ring::comparison::same_key` meets its contract.
 -- Assumes nothing.
 use borrow.Author.Needs.{needs}
-use mathlib.Core.Path.{_≡_, sym, ap, _∙_}
-use native.Mathlib.Omega.{arith}
+use Rattle.ring.proofs.Marks.{found-within}
+use mathlib.Core.Path.{sym, ap, _∙_}
 use Rattle.words.specs.Ring.{reading, lowest}
 use Rattle.words.specs.Strand.{opposite}
 use Rattle.ring.specs.Answers.{equal}
-use Rattle.ring.proofs.Marks.{start-within}
 use Rattle.ring.proofs.Compared.{same-length, same-own, same-plain, same-other, read-same, read-differ}
 use Rattle.ring.proofs.comparison.same_key.Statement.{statement}
 use Rattle.ring.proofs.comparison.same_key.Tie as tie
@@ -21,7 +20,10 @@ start-of-requires-2 : tie.Need-start-of-requires-2
 start-of-requires-2 c κs = search needs
 
 same-reading-requires : tie.Need-same-reading-requires
-same-reading-requires c κs = (rw (c .before .start-of .ensures) (start-within _ (c .before .before .before .before .before .pre .0)), rw (c .start-of2 .ensures) (start-within _ (c .before .before .before .before .before .pre .2)), search needs)
+same-reading-requires c κs =
+    let a = found-within _ _ (c .before .start-of .ensures) (c .before .before .before .before .before .pre .0) in
+    let b = found-within _ _ (c .start-of2 .ensures) (c .before .before .before .before .before .pre .2) in
+    search needs
 
 returns-2 : tie.Need-returns-2
 returns-2 c = same-own _ _ _ (c .before .before .before .before .before .before .before .pre .0) (c .before .before .before .before .before .before .before .pre .2) (read-same _ _ _ _ (c .before .before .before .start-of .ensures) (c .before .before .start-of2 .ensures) (sym (c .before .same-reading .ensures) ∙ c .if2 .taken))
@@ -30,7 +32,7 @@ has-strands-requires : tie.Need-has-strands-requires
 has-strands-requires c κs = search needs
 
 same-opposite-requires : tie.Need-same-opposite-requires
-same-opposite-requires c κs = (search needs, search needs, search needs, rw (c .before .before .before .before .start-of2 .ensures) (start-within _ (c .before .before .before .before .before .before .before .before .before .pre .2)))
+same-opposite-requires c κs = let b = found-within _ _ (c .before .before .before .before .start-of2 .ensures) (c .before .before .before .before .before .before .before .before .before .pre .2) in search needs
 
 returns-3 : tie.Need-returns-3
 unfolding lowest

@@ -1,10 +1,10 @@
 -- `ring::comparison::same_opposite` meets its contract: the opposite strand stands at the front of a room of its own.
 -- Assumes nothing.
 use borrow.Author.Needs.{needs}
-use mathlib.Core.Path.{_≡_, sym, ap, _∙_}
-use Rattle.words.specs.Ring.{reading, lowest}
-use Rattle.ring.specs.Answers.{equal}
-use Rattle.ring.proofs.Marks.{start-within, in-room, in-room-length}
+use Rattle.ring.proofs.Marks.{found-within}
+use mathlib.Core.Path.{sym, _∙_}
+use Rattle.words.specs.Ring.{lowest}
+use Rattle.ring.proofs.Marks.{in-room, in-room-length}
 use Rattle.ring.proofs.comparison.same_opposite.Statement.{statement}
 use Rattle.ring.proofs.comparison.same_opposite.Tie as tie
 
@@ -26,7 +26,8 @@ start-of-requires c κs = rw (in-room-length _ _ _ (c .before .before .copy-oppo
 same-reading-requires : tie.Need-same-reading-requires
 same-reading-requires c κs =
     let n = in-room-length _ _ _ (c .before .before .before .copy-opposite .ensures) in
-    (rw (c .start-of .ensures) (start-within _ (rw n (c .before .before .before .before .before .before .before .pre .0))), search needs, n ∙ c .before .before .before .before .before .before .before .pre .2)
+    let a = found-within _ _ (c .start-of .ensures) (rw n (c .before .before .before .before .before .before .before .pre .0)) in
+    search needs
 
 returns : tie.Need-returns
 unfolding lowest

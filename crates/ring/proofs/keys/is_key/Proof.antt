@@ -1,7 +1,7 @@
 -- `ring::keys::is_key` meets its contract: each return is the test that led there.
 -- Assumes nothing.
 use borrow.Author.Needs.{needs}
-use mathlib.Core.Path.{_≡_, sym, _∙_}
+use mathlib.Core.Path.{sym, _∙_}
 use Rattle.ring.specs.Judging.{Permitted}
 use Rattle.ring.proofs.Taken.{not-taken, taken-permitted}
 use Rattle.ring.proofs.KeyTests.{test-refused, test-more, test-late, test-plain, test-strand, test-left}
@@ -36,7 +36,7 @@ returns-2 : tie.Need-returns-2
 returns-2 c = test-more _ _ _ _ (permitted-at (c .before .before .before)) _ _ (c .before .before .first-factor .ensures) (c .if1 .taken)
 
 returns-3 : tie.Need-returns-3
-returns-3 c = test-late _ _ _ _ (permitted-at (c .before .before .before .before .before)) _ _ (c .before .before .before .before .first-factor .ensures) (c .before .before .if1 .left) (c .if2 .taken)
+returns-3 c = test-late _ _ _ _ (permitted-at (c .before .before .before .before .before)) _ _ (c .before .before .before .before .first-factor .ensures) (c .before .before .if1 .left) (search needs)
 
 has-strands-requires : tie.Need-has-strands-requires
 has-strands-requires c κs = search needs

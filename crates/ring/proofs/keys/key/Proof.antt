@@ -1,8 +1,6 @@
 -- `ring::keys::key` meets its contract: a part of the room that the strand names.
 -- Assumes nothing.
 use borrow.Author.Needs.{needs}
-use lib.ListN.{length}
-use mathlib.Core.Path.{_≡_, sym, ap, _∙_}
 use Rattle.ring.proofs.Keyed.{Keyed}
 use Rattle.ring.proofs.KeyPart.{first-part, second-part}
 use Rattle.ring.proofs.keys.key.Statement.{statement}

@@ -1,8 +1,9 @@
 -- `ring::keys::left_to` meets its contract: the opposite strand stands at the front of a room of its own.
 -- Assumes nothing.
 use borrow.Author.Needs.{needs}
-use mathlib.Core.Path.{_≡_, sym, ap, _∙_}
-use Rattle.ring.proofs.Marks.{start-within, in-room, in-room-length, left-other, left-own}
+use Rattle.ring.proofs.Marks.{found-within}
+use mathlib.Core.Path.{sym}
+use Rattle.ring.proofs.Marks.{in-room, in-room-length, left-other, left-own}
 use Rattle.ring.proofs.keys.left_to.Statement.{statement}
 use Rattle.ring.proofs.keys.left_to.Tie as tie
 
@@ -24,7 +25,8 @@ start-of-requires c κs = rw (in-room-length _ _ _ (c .before .before .copy-oppo
 lower-requires : tie.Need-lower-requires
 lower-requires c κs =
     let n = in-room-length _ _ _ (c .before .before .before .before .copy-opposite .ensures) in
-    (search needs, rw (c .before .start-of .ensures) (start-within _ (rw n (c .before .before .before .before .before .before .before .pre .0))), sym n)
+    let b = found-within _ _ (c .before .start-of .ensures) (rw n (c .before .before .before .before .before .before .before .pre .0)) in
+    search needs
 
 returns : tie.Need-returns
 returns c = left-other _ _ _ _ (in-room _ _ _ (c .before .before .before .before .before .copy-opposite .ensures)) (c .before .before .start-of .ensures) _ (c .before .if1 .taken) (c .lower .ensures)
@@ -32,7 +34,8 @@ returns c = left-other _ _ _ _ (in-room _ _ _ (c .before .before .before .before
 lower-requires-2 : tie.Need-lower-requires-2
 lower-requires-2 c κs =
     let n = in-room-length _ _ _ (c .before .before .before .before .copy-opposite .ensures) in
-    (rw (c .before .start-of .ensures) (start-within _ (rw n (c .before .before .before .before .before .before .before .pre .0))), search needs, n)
+    let b = found-within _ _ (c .before .start-of .ensures) (rw n (c .before .before .before .before .before .before .before .pre .0)) in
+    search needs
 
 returns-2 : tie.Need-returns-2
 returns-2 c = left-own _ _ _ _ (in-room _ _ _ (c .before .before .before .before .before .copy-opposite .ensures)) (c .before .before .start-of .ensures) _ (c .before .if1 .left) (c .lower2 .ensures)

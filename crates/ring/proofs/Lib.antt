@@ -5,3 +5,14 @@ pub mod Routing
 pub mod Exactly
 pub mod Numbers
 pub mod Determined
+pub mod Taken
+pub mod Permits
+pub mod Equal
+pub mod Rooms
+pub mod Written
+pub mod Marks
+pub mod Keyed
+pub mod KeyPart
+pub mod KeyFit
+pub mod KeyTests
+pub mod Compared

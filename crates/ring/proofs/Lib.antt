@@ -1,1 +1,4 @@
 pub mod Judging
+pub mod Rules
+pub mod Letters
+pub mod Deposit

@@ -1,4 +1,10 @@
 pub mod Judging
+pub mod Taken
+pub mod Equal
+pub mod Rooms
+pub mod Written
+pub mod Marks
+pub mod Keyed
 pub mod Rules
 pub mod Letters
 pub mod Deposit

@@ -1,3 +1,4 @@
 pub mod Rule
 pub mod Judging
+pub mod Strands
 pub mod Answers

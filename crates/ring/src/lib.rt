@@ -2,7 +2,10 @@
 mod answer;
 mod factor;
 mod judge;
+mod key;
 mod reading;
+mod start;
+mod strand;
 
 pub use answer::Checked;
 pub use answer::Compared;
@@ -12,3 +15,6 @@ pub use answer::Fought;
 pub use answer::Marked;
 pub use answer::Repeated;
 pub use judge::check;
+pub use key::mark;
+pub use key::write_key;
+pub use reading::write_reading;

@@ -2,7 +2,7 @@
 -- Assumes nothing.
 use mathlib.Core.Path.{_≡_, refl, sym, ap, _∙_}
 use mathlib.Core.Bool.{Bool, true, false, _&&_, true≢false}
-use mathlib.Core.List.{List, [], _∷_}
+use mathlib.Core.List.{List}
 use Prim.Native.Nat.{ℕ, _≤_, _<_, _-_}
 use native.Mathlib.Omega.{arith}
 use borrow.Author.Tests.{eq-eqb, eqb-true, ne-eqb}
@@ -16,22 +16,9 @@ use Rattle.words.proofs.Turn.{length-reading, reading-back}
 use Rattle.words.proofs.Strand.{length-opposite, opposite-twice, opposite-reading}
 use Rattle.ring.specs.Judging.{Permitted, verdict, taken}
 use Rattle.ring.specs.Answers.{equal, IsKey, deposit, isKey}
-use Rattle.ring.proofs.Letters.{permitted-taken, taken-permitted, permitted-reading, permitted-strand}
-
--- ---- two lists are the same
-
-pub equal-self : (u : List ℕ) → equal u u ≡ true
-equal-self [] = refl
-equal-self (a ∷ u) = rw (eq-eqb a a refl) (equal-self u)
-
-pub equal-same : (u v : List ℕ) → equal u v ≡ true → u ≡ v
-equal-same [] [] e = refl
-equal-same [] (b ∷ v) e = absurd (true≢false (sym e))
-equal-same (a ∷ u) [] e = absurd (true≢false (sym e))
-equal-same (a ∷ u) (b ∷ v) e =
-    by-test (eqb a b)
-    (λ t. let p : a ≡ b = eqb-true a b t in let q : u ≡ v = equal-same u v (rw t at e) in cc)
-    (λ t. absurd (true≢false (sym (rw t at e))))
+use Rattle.ring.proofs.Taken.{taken-is, permitted-taken, taken-permitted}
+use Rattle.ring.proofs.Equal.{equal-true, equal-same}
+use Rattle.ring.proofs.Letters.{permitted-reading, permitted-strand}
 
 -- ---- strands
 
@@ -83,7 +70,7 @@ and-true false t e = absurd (true≢false (sym e))
 pub ring-passes : (kind : ℕ) (w : List ℕ) → Permitted kind w → isKey kind (key kind w) (keyStart kind w) (strand kind w) ≡ true
 unfolding isKey
 ring-passes kind w p =
-    rw (deposit-back kind w (p .some), permitted-taken kind w p, equal-self (key kind w), eq-eqb (keyStart kind w) (keyStart kind w) refl, eq-eqb (strand kind w) (strand kind w) refl)
+    rw (deposit-back kind w (p .some), permitted-taken kind w false p refl, equal-true {u = key kind w} refl, eq-eqb (keyStart kind w) (keyStart kind w) refl, eq-eqb (strand kind w) (strand kind w) refl)
 
 -- and what passes is what the deposit's key has
 module _ (kind : ℕ) (k : List ℕ) (at s : ℕ) (e : isKey kind k at s ≡ true) where
@@ -97,7 +84,7 @@ module _ (kind : ℕ) (k : List ℕ) (at s : ℕ) (e : isKey kind k at s ≡ tru
       (z .0, z .1, y .1, x .1)
 
   pub passes-permitted : Permitted kind (deposit k at s)
-  passes-permitted = taken-permitted kind (deposit k at s) false (parts .0)
+  passes-permitted = taken-permitted kind (deposit k at s) false (taken-is _ (parts .0)) .0
 
   pub passes-key : key kind (deposit k at s) ≡ k
   passes-key = equal-same _ _ (parts .1)

@@ -1,14 +1,14 @@
 -- A ring is taken exactly when it is permitted; turns and opposite strands of permitted rings are permitted.
 -- Assumes nothing.
-use mathlib.Core.Path.{_≡_, refl, sym, ap}
+use mathlib.Core.Path.{_≡_, refl, sym, ap, _∙_}
 use mathlib.Core.Bool.{Bool, true, false, true≢false}
 use mathlib.Core.List.{List, [], _∷_, _++_, map, reverseAux}
 use Prim.Native.Nat.{ℕ, zero, suc, _≤_, _<_}
 use native.Mathlib.Omega.{arith}
-use borrow.Author.Tests.{ltb-false, eqb-true, eqb-false, leb-true, not-false}
+use borrow.Author.Tests.{eqb-true, leb-true}
 use lib.Dec.{eqb}
 use lib.ListN.{length, take, drop, getD, take-append-drop}
-use Rattle.words.specs.Kind.{known, isBase, isLetter, facing}
+use Rattle.words.specs.Kind.{isBase, isLetter, facing}
 use Rattle.words.specs.Ring.{reading}
 use Rattle.words.specs.Strand.{opposite, onStrand}
 use Rattle.words.proofs.Search.{by-test}
@@ -16,9 +16,11 @@ use Rattle.words.proofs.Turn.{length-reading}
 use Rattle.words.proofs.Strand.{length-opposite}
 use Rattle.ring.specs.declared.judge.Verdict.{Verdict}
 use Rattle.ring.specs.declared.judge.Verdict.the-variants.{Taken, Kind, Empty, Long, Letter, Short}
-use Rattle.ring.specs.Judging.{most, firstBad, Permitted, ringRules, verdict, taken, numberOf}
-use Rattle.ring.proofs.Judging.{says-taken}
-use Rattle.ring.proofs.Rules.{done-clear}
+use Rattle.ring.specs.Rule.{Rule, rule, judged}
+use Rattle.ring.specs.Judging.{firstBad, Permitted, ringRules, verdict, taken, numberOf}
+use Rattle.ring.proofs.Judging.{says-short}
+use Rattle.ring.proofs.Taken.{taken-permitted}
+use Rattle.ring.proofs.Rules.{done-clear, clear-more, refused-more}
 
 -- every letter is one of the kind
 abbrev pub Letters : ℕ → List ℕ → Type 0
@@ -54,10 +56,6 @@ permitted-clean kind w p = omega (arith, letters-none kind w (letters-from kind 
 
 -- ---- taken and permitted
 
-pub permitted-taken : (kind : ℕ) (w : List ℕ) → Permitted kind w → verdict kind w false ≡ Taken
-permitted-taken kind w p =
-    says-taken kind w false (leb-true kind 1 (p .kinds)) (λ e. omega (arith, p .some)) (p .within) (permitted-clean kind w p) refl
-
 pub number-taken : (v : Verdict) → numberOf v ≡ 0 → v ≡ Taken
 number-taken Taken e = refl
 number-taken Kind e = absurd (omega arith)
@@ -66,27 +64,36 @@ number-taken Long e = absurd (omega arith)
 number-taken (Letter i) e = absurd (omega arith)
 number-taken Short e = absurd (omega arith)
 
-taken-number : (v : Verdict) → taken v ≡ true → numberOf v ≡ 0
-taken-number Taken e = refl
-taken-number Kind e = absurd (true≢false (sym e))
-taken-number Empty e = absurd (true≢false (sym e))
-taken-number Long e = absurd (true≢false (sym e))
-taken-number (Letter i) e = absurd (true≢false (sym e))
-taken-number Short e = absurd (true≢false (sym e))
+pub number-refused : (v : Verdict) → (numberOf v ≡ 0 → ⊥) → taken v ≡ false
+number-refused Taken n = absurd (n refl)
+number-refused Kind n = refl
+number-refused Empty n = refl
+number-refused Long n = refl
+number-refused (Letter i) n = refl
+number-refused Short n = refl
 
 pub number-permitted : (kind : ℕ) (w : List ℕ) (short : Bool) → numberOf (verdict kind w short) ≡ 0 → Permitted kind w
-unfolding verdict
-number-permitted kind w short e =
-    let c = done-clear numberOf 0 Taken (ringRules kind w short) (omega arith) e in
-    record {
-      kinds = not-false (known kind) (c .0);
-      some = omega (arith, eqb-false (length w) 0 (c .1 .0));
-      within = ltb-false most (length w) (c .1 .1 .0);
-      letters = clean-letters kind w (ltb-false (firstBad kind w) (length w) (c .1 .1 .1 .0));
-    }
+number-permitted kind w short e = taken-permitted kind w short (number-taken (verdict kind w short) e) .0
 
-pub taken-permitted : (kind : ℕ) (w : List ℕ) (short : Bool) → taken (verdict kind w short) ≡ true → Permitted kind w
-taken-permitted kind w short e = number-permitted kind w short (taken-number (verdict kind w short) e)
+-- ---- a room that is too short
+
+-- the rules before 4
+abbrev fourRules : ℕ → List ℕ → List (Rule Verdict)
+fourRules kind w = take 4 (ringRules kind w false)
+
+-- a ring that is refused without a room is refused so whatever the room
+pub refused-any : (kind : ℕ) (w : List ℕ) (short : Bool) → (numberOf (verdict kind w false) ≡ 0 → ⊥) → verdict kind w short ≡ verdict kind w false
+unfolding verdict
+refused-any kind w short n =
+    let no : numberOf (judged (fourRules kind w) Taken) ≡ 0 → ⊥ =
+    λ e. n (ap numberOf (clear-more (fourRules kind w) (rule false Short ∷ []) Taken (done-clear numberOf 0 Taken (fourRules kind w) (omega arith) e))) in
+    refused-more numberOf (fourRules kind w) (rule short Short ∷ []) Taken no
+    ∙ sym (refused-more numberOf (fourRules kind w) (rule false Short ∷ []) Taken no)
+
+-- a permitted one is refused with 4 where the room is too short
+pub permitted-short : (kind : ℕ) (w : List ℕ) → Permitted kind w → verdict kind w true ≡ Short
+permitted-short kind w p =
+    says-short kind w true (leb-true kind 1 (p .kinds)) (λ e. omega (arith, p .some)) (p .within) (permitted-clean kind w p) refl
 
 -- ---- turns and opposites
 

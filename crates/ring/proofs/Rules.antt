@@ -23,6 +23,10 @@ module _ {A : Type 0} where
   clear-more [] more d c = refl
   clear-more (r ∷ rs) more d c = rw (c .0) (clear-more rs more d (c .1))
 
+  pub clear-join : (rs more : List (Rule A)) → Clear rs → Clear more → Clear (rs ++ more)
+  clear-join [] more c d = d
+  clear-join (r ∷ rs) more c d = (c .0, clear-join rs more (c .1) d)
+
   pub clear-done : (rs : List (Rule A)) (d : A) → Clear rs → judged rs d ≡ d
   clear-done [] d c = refl
   clear-done (r ∷ rs) d c = rw (c .0) (clear-done rs d (c .1))
@@ -47,6 +51,11 @@ module _ {A : Type 0} where
     never-given : (rs : List (Rule A)) → Never number k rs → (number d ≡ k → ⊥) → number (judged rs d) ≡ k → ⊥
     never-given [] p z e = z e
     never-given (r ∷ rs) p z e = by-test (r .when) (λ t. p .0 (rw t at e)) (λ t. never-given rs (p .1) z (rw t at e))
+
+  -- rules behind a refusal change nothing
+  pub refused-more : (number : A → ℕ) (rs more : List (Rule A)) (d : A) → (number (judged rs d) ≡ number d → ⊥) → judged (rs ++ more) d ≡ judged rs d
+  refused-more number [] more d n = absurd (n refl)
+  refused-more number (r ∷ rs) more d n = by-test (r .when) (λ t. rw t) (λ t. rw t (refused-more number rs more d (λ e. n (rw t e))))
 
   -- "Given exactly when" (01): a number is given exactly when its rule holds and none before it, if only this rule gives it
   pub exactly : (number : A → ℕ) (d : A) (rs : List (Rule A)) (r : Rule A) (more : List (Rule A))

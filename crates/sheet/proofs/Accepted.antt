@@ -1,22 +1,22 @@
 -- What the reader takes is the very sheet that the writer makes for its deposit; 7 is given exactly when no deposit has that sheet.
 -- Assumes nothing.
-use mathlib.Core.Path.{_≡_, refl, sym, ap, ap₂, _∙_, subst}
+use mathlib.Core.Path.{_≡_, refl, sym, ap, _∙_, subst}
 use mathlib.Core.Logic.{_↔_}
-use mathlib.Core.Bool.{Bool, true, false, not, _||_, _&&_, true≢false}
+use mathlib.Core.Bool.{Bool, true, false, not, _||_, true≢false}
 use mathlib.Core.List.{List, [], _∷_, _++_}
 use Prim.Native.Nat.{ℕ, _≤_, _<_, _+_, _-_, _*_}
 use native.Mathlib.Omega.{arith}
-use borrow.Author.Tests.{eqb-true, eqb-false, ltb-false, not-true, not-false}
-use lib.ListN.{length, take, drop, getD, length-take, length-drop, take-append-drop}
+use borrow.Author.Tests.{eqb-true, eqb-false, ltb-false, not-false}
+use lib.ListN.{length, drop, getD, length-take, length-drop, take-append-drop}
 use lib.Seq.{drop-drop, getD-drop}
 use Rattle.words.specs.Kind.{known}
 use Rattle.words.proofs.Search.{by-test}
-use Rattle.ring.specs.Judging.{most, firstBad, Permitted}
+use Rattle.ring.specs.Judging.{Permitted}
 use Rattle.ring.proofs.Rules.{Clear, clear-join, clear-done, number-clear, done-clear, first-holds}
 use Rattle.ring.proofs.Letters.{clean-letters}
 use Rattle.ring.proofs.Deposit.{passes-permitted, passes-key, passes-start, passes-strand, ring-passes}
 use Rattle.sheet.specs.Sheet.{Marks, low, high, trailerOf, bytesOf, marksOf, sheetOf, Written, depositOf, isMade}
-use Rattle.sheet.specs.Trailer.{Bytes, trailer, two, wayBack, before, marksIn, wrongMarks, badIn, formRules, notMade, sheetRules, sheetIn, foundOf, numberOf}
+use Rattle.sheet.specs.Trailer.{Bytes, trailer, wayBack, before, marksIn, wrongMarks, formRules, notMade, sheetRules, sheetIn, foundOf, numberOf}
 use Rattle.sheet.proofs.Rounds.{marks-path, marks-bytes}
 
 -- ---- where 6 is not given

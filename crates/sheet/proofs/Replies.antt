@@ -1,25 +1,25 @@
 -- Each answer of the trailer reader from what its tests showed.
 -- Assumes nothing.
 use mathlib.Core.Path.{_≡_, refl, sym, ap, ap₂, _∙_}
-use mathlib.Core.Bool.{Bool, true, false, cond, not}
+use mathlib.Core.Bool.{true, false, cond, not}
 use mathlib.Core.List.{List, [], _∷_}
 use Prim.Native.Nat.{ℕ, _≤_, _<_, _+_, _-_}
 use native.Mathlib.Omega.{arith}
-use borrow.Author.Tests.{eq-eqb, ne-eqb, lt-ltb, le-ltb, lt-leb, le-leb, not-false}
+use borrow.Author.Tests.{eq-eqb, ne-eqb, lt-ltb, le-ltb, lt-leb, le-leb}
 use lib.Dec.{ltb, eqb}
 use lib.ListN.{length, take, drop, getD, length-take, length-drop}
 use lib.Seq.{take-all, getD-drop}
-use Rattle.words.specs.Kind.{known, stranded}
+use Rattle.words.specs.Kind.{stranded}
 use Rattle.words.proofs.Search.{by-test}
 use Rattle.ring.specs.Rule.{rule, judged}
-use Rattle.ring.specs.Judging.{most, firstBad, verdict, Permitted}
+use Rattle.ring.specs.Judging.{most, verdict}
 use Rattle.ring.specs.Answers.{isKey, checkedAs, checkedOf}
 use Rattle.ring.specs.declared.answer.Checked.{Checked}
 use Rattle.ring.specs.declared.judge.Verdict.the-variants.{Taken, Letter}
 use Rattle.sheet.specs.declared.answer.Found.the-variants.{Sheet, Refused}
-use Rattle.sheet.specs.Sheet.{Marks, isMade}
+use Rattle.sheet.specs.Sheet.{isMade}
 use Rattle.sheet.specs.Trailer.{trailer, two, wayBack, before, marksIn, wrongMarks, badIn, Pointed, notMade, sheetIn, foundOf}
-use Rattle.sheet.proofs.Accepted.{Right, right-marks}
+use Rattle.sheet.proofs.Accepted.{right-marks}
 
 -- ---- 6
 

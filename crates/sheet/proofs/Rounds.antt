@@ -1,27 +1,27 @@
 -- What the writer makes is read back: its key, marks, kind and deposit, whatever stands before it.
 -- Assumes nothing.
 use mathlib.Core.Path.{_≡_, refl, sym, ap, ap₂, _∙_}
-use mathlib.Core.Bool.{Bool, true, false, not, _||_, true≢false}
+use mathlib.Core.Bool.{false, not}
 use mathlib.Core.List.{List, [], _∷_, _++_, append-assoc}
-use Prim.Native.Nat.{ℕ, zero, suc, _≤_, _<_, _+_, _-_, _*_}
+use Prim.Native.Nat.{ℕ, zero, suc, _≤_, _+_, _-_, _*_}
 use native.Mathlib.Omega.{arith}
 use borrow.Author.Tests.{ne-eqb, le-ltb, leb-true}
 use lib.Dec.{ltb}
-use lib.ListN.{length, take, drop, getD, length-append}
+use lib.ListN.{length, take, getD, length-append}
 use lib.Seq.{take-at, drop-at}
 use Rattle.words.specs.Order.{before}
 use Rattle.words.specs.Kind.{stranded}
 use Rattle.words.specs.Ring.{lowest}
 use Rattle.words.specs.Strand.{opposite, strand, keyStart, key}
 use Rattle.words.proofs.Search.{by-test}
-use Rattle.ring.specs.Rule.{rule, judged}
+use Rattle.ring.specs.Rule.{rule}
 use Rattle.ring.specs.Judging.{most, Permitted, firstBad, over}
 use Rattle.ring.proofs.Rules.{Clear, clear-join, clear-more, clear-done}
 use Rattle.ring.proofs.Letters.{permitted-clean}
 use Rattle.ring.proofs.Deposit.{length-key, deposit-back, permitted-key, ring-passes}
 use Rattle.sheet.specs.declared.answer.Found.the-variants.{Sheet, Refused}
 use Rattle.sheet.specs.Sheet.{Marks, low, high, trailerOf, bytesOf, marksOf, sheetOf, depositOf, isMade}
-use Rattle.sheet.specs.Trailer.{trailer, two, wayBack, marksIn, wrongMarks, badIn, formRules, notMade, sheetRules, sheetIn, foundOf}
+use Rattle.sheet.specs.Trailer.{trailer, two, wayBack, marksIn, wrongMarks, formRules, notMade, sheetRules, sheetIn, foundOf}
 use Rattle.sheet.specs.Trailer as at-end
 use Rattle.sheet.specs.Reader.{entryAs, entryOf, partAs, partOf, restoredOf, originalOf, roomAs, originalRoom}
 

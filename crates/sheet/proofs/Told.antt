@@ -1,26 +1,22 @@
 -- What a caller of the trailer reader learns from its answer.
 -- Assumes nothing.
-use mathlib.Core.Path.{_≡_, refl, sym, ap, ap₂, _∙_}
-use mathlib.Core.Bool.{true, false, cond}
+use mathlib.Core.Path.{_≡_, sym, ap, ap₂, _∙_}
+use mathlib.Core.Bool.{cond}
 use mathlib.Core.List.{List, [], _∷_}
-use Prim.Native.Nat.{ℕ, _≤_, _<_, _+_, _-_}
+use Prim.Native.Nat.{ℕ, _≤_, _-_}
 use native.Mathlib.Omega.{arith}
-use borrow.Author.Tests.{eq-eqb, ne-eqb, lt-ltb, le-ltb}
-use lib.Dec.{ltb, eqb}
+use lib.Dec.{ltb}
 use lib.ListN.{length, take, drop}
-use Rattle.words.specs.Ring.{reading}
-use Rattle.words.specs.Strand.{onStrand}
 use Rattle.words.proofs.Search.{by-test}
-use Rattle.ring.specs.Rule.{rule, judged}
+use Rattle.ring.specs.Rule.{rule}
 use Rattle.ring.specs.Judging.{over}
 use Rattle.ring.specs.Answers.{fewer, wroteOf, wroteRoom, deposit}
 use Rattle.ring.proofs.Rules.{clear-more, refused-more}
 use Rattle.ring.proofs.Deposit.{passes-below, deposit-other, deposit-own}
-use Rattle.sheet.specs.declared.answer.Found.{Found}
 use Rattle.sheet.specs.declared.answer.Found.the-variants.{Sheet, Refused}
 use Rattle.sheet.specs.Sheet.{depositOf}
-use Rattle.sheet.specs.Trailer.{wayBack, before, marksIn, sheetRules, sheetIn, foundOf, numberOf, placeOf}
-use Rattle.sheet.specs.Reader.{entryAs, entryOf, partAs, partOf, restoredOf, originalOf, restoredIn, roomAs, originalRoom}
+use Rattle.sheet.specs.Trailer.{wayBack, before, marksIn, sheetRules, sheetIn, foundOf, numberOf}
+use Rattle.sheet.specs.Reader.{partAs, partOf, restoredOf, originalOf, restoredIn, originalRoom}
 use Rattle.sheet.proofs.Accepted.{long, reach, length-letters, taken-form, taken-clear, taken-found, taken-made}
 
 -- ---- a sheet answered

@@ -1,61 +1,48 @@
+-- `sheet::reader::original` meets its contract. What the trailer's answer says is what the call writes, by `Told`.
+-- Assumes nothing.
 use mathlib.Core.Path.{sym, _∙_}
 use lib.ListN.{length}
 use Rattle.sheet.proofs.Told.{told-done, told-start, told-strand, told-long, told-within, told-part, told-below, original-refused, room-refused, original-done, room-done}
 use borrow.Author.Needs.{needs}
 use Rattle.sheet.proofs.reader.original.Statement.{statement}
 use Rattle.sheet.proofs.reader.original.Tie as tie
-use Rattle.sheet.proofs.reader.original.Reads as reads
-use Rattle.sheet.proofs.reader.original.Lts as lts
-use Rattle.sheet.proofs.reader.restore.Reads as restore-reads
-use Rattle.sheet.proofs.trailer.trailer.Reads as trailer-reads
 
--- src/reader.rt:78:11
 trailer-requires : tie.Need-trailer-requires
 trailer-requires c κs = search needs
 
--- src/reader.rt:79:24
 enum-known-number : tie.Need-enum-known-number
 enum-known-number c = search needs
 
--- src/reader.rt:81:13
 enum-known-start : tie.Need-enum-known-start
 enum-known-start c = search needs
 
--- src/reader.rt:86:22
 sub-at : tie.Need-sub-at
 sub-at c = told-long (c .before .before .before .before .before .before .args .bytes .now) _ _ _ _ _ (sym (c .before .start .given .1) ∙ c .before .before .before .trailer .ensures)
 
--- src/reader.rt:87:21
 sub-restore : tie.Need-sub-restore
 sub-restore c = told-within (c .before .before .before .before .before .before .args .bytes .now) _ _ _ _ _ (sym (c .before .start .given .1) ∙ c .before .before .before .trailer .ensures)
 
--- src/reader.rt:87:21
 part-restore-start : tie.Need-part-restore-start
 part-restore-start c =
     let h = told-within (c .before .before .before .before .before .before .args .bytes .now) _ _ _ _ _ (sym (c .before .start .given .1) ∙ c .before .before .before .trailer .ensures) in
     let l = told-long (c .before .before .before .before .before .before .args .bytes .now) _ _ _ _ _ (sym (c .before .start .given .1) ∙ c .before .before .before .trailer .ensures) in
     search needs
 
--- src/reader.rt:87:21
 part-restore-end : tie.Need-part-restore-end
 part-restore-end c = search needs
 
--- src/reader.rt:87:13
 restore-requires : tie.Need-restore-requires
 restore-requires c κs = told-below (c .before .before .before .before .before .before .before .before .args .bytes .now) _ _ _ _ _ (sym (c .before .before .before .start .given .1) ∙ c .before .before .before .before .before .trailer .ensures)
 
--- src/reader.rt:74:1
 returns : tie.Need-returns
 returns c =
     let s = c .before .before .before .before .before .before in
     let e = sym (c .before .number .given .1) ∙ c .before .before .before .trailer .ensures in
     (original-refused (s .args .bytes .now) _ _ e (length (s .args .room .now)), room-refused (s .args .bytes .now) _ _ e (s .args .room .now))
 
--- src/reader.rt:74:1
 same-length : tie.Need-same-length
 same-length c = search needs
 
--- src/reader.rt:74:1
 returns-2 : tie.Need-returns-2
 returns-2 c =
     let s = c .before .before .before .before .before .before .before .before .before .before .before in

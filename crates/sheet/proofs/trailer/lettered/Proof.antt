@@ -1,85 +1,65 @@
+-- `sheet::trailer::lettered` meets its contract. The letters and bytes read are those that the trailer points to, by `Replies`.
+-- Assumes nothing.
 use mathlib.Core.Path.{sym, _∙_}
 use borrow.Author.Tests.{not-true, not-false}
 use Rattle.sheet.proofs.Replies.{says-letter, says-unmade, says-sheet}
 use borrow.Author.Needs.{needs}
 use Rattle.sheet.proofs.trailer.lettered.Statement.{statement}
 use Rattle.sheet.proofs.trailer.lettered.Tie as tie
-use Rattle.sheet.proofs.trailer.lettered.Reads as reads
-use Rattle.sheet.proofs.trailer.lettered.Lts as lts
-use Rattle.ring.proofs.check.Reads as check-reads
-use Rattle.ring.proofs.is_key.Reads as is-key-reads
-use Rattle.sheet.proofs.trailer.pair.Reads as pair-reads
 
--- src/trailer.rt:74:18
 sub-before : tie.Need-sub-before
 sub-before c = search needs
 
--- src/trailer.rt:75:22
 add-kind : tie.Need-add-kind
 add-kind c = search needs
 
--- src/trailer.rt:75:16
 shared-slice-read-kind : tie.Need-shared-slice-read-kind
 shared-slice-read-kind c = search needs
 
--- src/trailer.rt:76:19
 sub-letters : tie.Need-sub-letters
 sub-letters c = search needs
 
--- src/trailer.rt:76:19
 part-letters-start : tie.Need-part-letters-start
 part-letters-start c = search needs
 
--- src/trailer.rt:76:19
 part-letters-end : tie.Need-part-letters-end
 part-letters-end c = search needs
 
--- src/trailer.rt:77:9
 check-requires : tie.Need-check-requires
 check-requires c κs = search needs
 
--- src/trailer.rt:79:9
 returns : tie.Need-returns
 returns c =
     let s = c .before .before .before .before .before .before in
     says-letter (s .args .bytes .now) (s .args .at) (s .args .n) (s .pre) (c .before .before .check .result) (c .before .before .check .ensures) (c .if1 .taken)
 
--- src/trailer.rt:81:22
 sub-pair : tie.Need-sub-pair
 sub-pair c = search needs
 
--- src/trailer.rt:81:22
 part-pair-start : tie.Need-part-pair-start
 part-pair-start c = search needs
 
--- src/trailer.rt:81:22
 part-pair-end : tie.Need-part-pair-end
 part-pair-end c = search needs
 
--- src/trailer.rt:81:9
 pair-requires : tie.Need-pair-requires
 pair-requires c κs = search needs
 
--- src/trailer.rt:82:24
 add-strand : tie.Need-add-strand
 add-strand c = search needs
 
--- src/trailer.rt:82:18
 shared-slice-read-strand : tie.Need-shared-slice-read-strand
 shared-slice-read-strand c = search needs
 
--- src/trailer.rt:83:9
 is-key-requires : tie.Need-is-key-requires
-is-key-requires c κs = ?
+is-key-requires c κs = search needs
 
--- src/trailer.rt:84:9
 returns-2 : tie.Need-returns-2
 returns-2 c =
     let s = c .before .before .before .before .before .before .before .before .before .before .before in
     says-unmade (s .args .bytes .now) (s .args .at) (s .args .n) (s .pre) (c .before .before .before .before .before .before .before .check .result) (c .before .before .before .before .before .before .before .check .ensures) (c .before .before .before .before .before .if1 .left)
     (c .before .before .before .pair .result) (c .before .before .before .pair .ensures) (sym (c .before .is-key .ensures) ∙ not-true _ (c .if2 .taken))
 
--- src/trailer.rt:70:1
 returns-3 : tie.Need-returns-3
 returns-3 c =
     let s = c .before .before .before .before .before .before .before .before .before .before .before in

@@ -1,43 +1,46 @@
+-- `sheet::writer::write` meets its contract. Each answer by the ring's verdict, and the bytes that the two writers leave, by `Writing`.
+-- Assumes nothing.
+use native.Mathlib.Omega.{arith}
+use Rattle.sheet.proofs.Writing.{write-refused, write-most, write-start, write-short, write-size, write-done}
 use borrow.Author.Needs.{needs}
 use Rattle.sheet.proofs.writer.write.Statement.{statement}
 use Rattle.sheet.proofs.writer.write.Tie as tie
-use Rattle.sheet.proofs.writer.write.Reads as reads
-use Rattle.sheet.proofs.writer.write.Lts as lts
-use Rattle.ring.proofs.mark.Reads as mark-reads
-use Rattle.ring.proofs.write_reading.Reads as write-reading-reads
-use Rattle.sheet.proofs.trailer.put_trailer.Reads as put-trailer-reads
 
--- src/writer.rt:13:9
 mark-requires : tie.Need-mark-requires
-mark-requires c κs = ?
+mark-requires c κs = search needs
 
--- src/writer.rt:15:9
 returns : tie.Need-returns
-returns c = ?
+returns c =
+    let s = c .before .before .before .before .before in
+    write-refused (s .args .kind) (s .args .ring .now) (s .args .room .now) (c .before .before .mark .result) (c .before .before .mark .ensures) (c .if1 .taken)
 
--- src/writer.rt:20:21
 add-if2 : tie.Need-add-if2
-add-if2 c = ?
+add-if2 c =
+    let s = c .before .before .before .before .before in
+    let h = write-most (s .args .kind) (s .args .ring .now) (s .args .room .now) (c .before .before .mark .result) (c .before .before .mark .ensures) (c .if1 .left) in
+    search needs
 
--- src/writer.rt:21:9
 returns-2 : tie.Need-returns-2
-returns-2 c = ?
+returns-2 c =
+    let s = c .before .before .before .before .before .before in
+    write-short (s .args .kind) (s .args .ring .now) (s .args .room .now) (c .before .before .before .mark .result) (c .before .before .before .mark .ensures) (c .before .if1 .left) (c .if2 .taken)
 
--- src/writer.rt:29:5
 write-reading-requires : tie.Need-write-reading-requires
-write-reading-requires c κs = ?
+write-reading-requires c κs = search needs
 
--- src/writer.rt:30:5
 put-trailer-requires : tie.Need-put-trailer-requires
-put-trailer-requires c κs = ?
+put-trailer-requires c κs =
+    let s = c .before .before .before .before .before .before .before .before .before .before .before in
+    let l = write-size (s .args .kind) (s .args .ring .now) (s .args .room .now) (c .before .before .before .before .before .before .before .before .mark .result) (c .before .before .before .before .before .before .before .before .mark .ensures) (c .before .before .before .before .before .before .if1 .left) (c .before .before .before .before .before .if2 .left) _ (c .before .before .before .write-reading .ensures .1) in
+    (omega (arith, l, c .before .before .before .before .before .if2 .left), write-most (s .args .kind) (s .args .ring .now) (s .args .room .now) (c .before .before .before .before .before .before .before .before .mark .result) (c .before .before .before .before .before .before .before .before .mark .ensures) (c .before .before .before .before .before .before .if1 .left), write-start (s .args .kind) (s .args .ring .now) (s .args .room .now) (c .before .before .before .before .before .before .before .before .mark .result) (c .before .before .before .before .before .before .before .before .mark .ensures) (c .before .before .before .before .before .before .if1 .left))
 
--- src/writer.rt:9:1
 same-length : tie.Need-same-length
 same-length c = search needs
 
--- src/writer.rt:9:1
 returns-3 : tie.Need-returns-3
-returns-3 c = ?
+returns-3 c =
+    let s = c .before .before .before .before .before .before .before .before .before .before .before .before .before .before in
+    write-done (s .args .kind) (s .args .ring .now) (s .args .room .now) (c .before .before .before .before .before .before .before .before .before .before .before .mark .result) (c .before .before .before .before .before .before .before .before .before .before .before .mark .ensures) (c .before .before .before .before .before .before .before .before .before .if1 .left) (c .before .before .before .before .before .before .before .before .if2 .left) _ (c .before .before .before .before .before .before .write-reading .ensures .1) _ (c .before .before .put-trailer .ensures)
 
 pub write-spec : {M : Type 1} → statement M
 write-spec =

@@ -6,7 +6,6 @@ mod trailer;
 mod writer;
 
 pub use answer::Entry;
-pub use answer::Found;
 pub use answer::Walked;
 pub use book::walk;
 pub use reader::letters;

@@ -49,7 +49,7 @@ pub fn read(bytes: &[u8]) -> Entry
 // The letters between the pointed place and the trailer, or an empty part at the front.
 pub fn letters(bytes: &[u8]) -> &[u8]
     ensures { λ r. ⌜ now r ≡ partOf (now (bytes .entry)) ⌝ }
-    ensures { λ r. ⌜ r .ptr .1 ≡ bytes .entry .ptr .1 + entryOf (now (bytes .entry)) .before ⌝ }
+    ensures { λ r. ⌜ (r .ptr .0 ≡ bytes .entry .ptr .0) × (r .ptr .1 ≡ bytes .entry .ptr .1 + entryOf (now (bytes .entry)) .before) ⌝ }
 {
     let Found::Sheet { before, .. } = trailer::trailer(bytes) else {
         return &bytes[..0];

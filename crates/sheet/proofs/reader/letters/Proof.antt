@@ -1,6 +1,6 @@
 -- `sheet::reader::letters` meets its contract. The part that the trailer points to, and its place, by `Told`.
 -- Assumes nothing.
-use mathlib.Core.Path.{sym, ap, _∙_}
+use mathlib.Core.Path.{refl, sym, ap, _∙_}
 use native.Mathlib.Omega.{arith}
 use Rattle.sheet.specs.Reader.{entryAs, partAs}
 use Rattle.sheet.proofs.Told.{told-long, told-within, told-key}
@@ -23,7 +23,7 @@ slice-aggregate-result c = search needs
 returns : tie.Need-returns
 returns c =
     let e = sym (c .before .enum-told .given .1) ∙ c .before .before .before .trailer .ensures in
-    (ap (partAs (c .before .before .before .before .before .args .bytes .now)) e, omega (arith, ap (λ f. entryAs f .before) e))
+    (ap (partAs (c .before .before .before .before .before .args .bytes .now)) e, (refl, omega (arith, ap (λ f. entryAs f .before) e)))
 
 sub-at : tie.Need-sub-at
 sub-at c = told-long (c .before .before .before .before .before .args .bytes .now) _ _ _ _ _ (sym (c .before .before2 .given .1) ∙ c .before .before .before .trailer .ensures)
@@ -43,7 +43,7 @@ part-result-end c = search needs
 returns-2 : tie.Need-returns-2
 returns-2 c =
     let e = sym (c .before .before .before2 .given .1) ∙ c .before .before .before .before .trailer .ensures in
-    (told-key (c .before .before .before .before .before .before .args .bytes .now) _ _ _ _ _ (sym (c .before .before .before2 .given .1) ∙ c .before .before .before .before .trailer .ensures), omega (arith, ap (λ f. entryAs f .before) e))
+    (told-key (c .before .before .before .before .before .before .args .bytes .now) _ _ _ _ _ (sym (c .before .before .before2 .given .1) ∙ c .before .before .before .before .trailer .ensures), (refl, omega (arith, ap (λ f. entryAs f .before) e)))
 
 pub letters-spec : {M : Type 1} → statement M
 letters-spec =

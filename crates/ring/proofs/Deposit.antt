@@ -1,44 +1,30 @@
--- The deposit is the one ring that has a key with its start and strand; `isKey` tests just whether there is one.
+-- The deposit is the one ring that has a key with its start and strand.
 -- Assumes nothing.
-use mathlib.Core.Path.{_≡_, refl, sym, ap, _∙_}
-use mathlib.Core.Bool.{Bool, true, false, _&&_, true≢false}
+use mathlib.Core.Path.{_≡_, refl, sym, ap, ap₂, _∙_, subst}
+use mathlib.Core.Bool.{true}
 use mathlib.Core.List.{List}
 use Prim.Native.Nat.{ℕ, _≤_, _<_, _-_}
 use native.Mathlib.Omega.{arith}
-use borrow.Author.Tests.{eq-eqb, eqb-true, ne-eqb}
-use lib.Dec.{eqb}
+use borrow.Author.Tests.{eq-eqb, ne-eqb}
 use lib.ListN.{length}
 use Rattle.words.specs.Ring.{reading, start, lowest}
 use Rattle.words.specs.Strand.{opposite, onStrand, strand, keyStart, key}
-use Rattle.words.proofs.Search.{by-test}
 use Rattle.words.proofs.Ring.{start-is}
 use Rattle.words.proofs.Turn.{length-reading, reading-back}
-use Rattle.words.proofs.Strand.{length-opposite, opposite-twice, opposite-reading}
-use Rattle.ring.specs.Judging.{Permitted, verdict, taken}
-use Rattle.ring.specs.Answers.{equal, IsKey, deposit, isKey}
-use Rattle.ring.proofs.Taken.{taken-is, permitted-taken, taken-permitted}
-use Rattle.ring.proofs.Equal.{equal-true, equal-same}
-use Rattle.ring.proofs.Letters.{permitted-reading, permitted-strand}
+use Rattle.words.proofs.Strand.{opposite-reading, length-strand, strand-twice}
+use Rattle.ring.specs.Judging.{Permitted}
+use Rattle.ring.specs.Answers.{IsKey, deposit, isKey}
+use Rattle.ring.proofs.Permits.{permitted-lowest, permitted-strand}
+use Rattle.ring.proofs.KeyFit.{isKey-is, isKey-true}
+use Rattle.ring.proofs.Compared.{length-key}
 
--- ---- strands
-
-pub length-strand : (s : ℕ) (w : List ℕ) → length (onStrand s w) ≡ length w
-length-strand s w = by-test (eqb s 1) (λ t. rw t (length-opposite w)) (λ t. rw t)
-
-pub strand-twice : (s : ℕ) (w : List ℕ) → onStrand s (onStrand s w) ≡ w
-strand-twice s w = by-test (eqb s 1) (λ t. rw t (opposite-twice w)) (λ t. rw t)
-
-pub length-lowest : (w : List ℕ) → 0 < length w → length (lowest w) ≡ length w
-unfolding lowest
-length-lowest w h = length-reading w (start w) (omega (arith, start-is w h .within))
+pub permitted-key : (kind : ℕ) (w : List ℕ) → Permitted kind w → Permitted kind (key kind w)
+unfolding key
+permitted-key kind w p = permitted-lowest kind (onStrand (strand kind w) w) (permitted-strand kind (strand kind w) w p)
 
 module _ (kind : ℕ) (w : List ℕ) (h : 0 < length w) where
   some-strand : 0 < length (onStrand (strand kind w) w)
   some-strand = rw length-strand h
-
-  pub length-key : length (key kind w) ≡ length w
-  unfolding key
-  length-key = length-lowest (onStrand (strand kind w) w) some-strand ∙ length-strand (strand kind w) w
 
   pub start-below : keyStart kind w < length w
   unfolding keyStart
@@ -49,64 +35,45 @@ module _ (kind : ℕ) (w : List ℕ) (h : 0 < length w) where
   unfolding deposit key keyStart lowest
   deposit-back =
       let u : List ℕ = onStrand (strand kind w) w in
-      let b : reading (reading u (start u)) (length (reading u (start u)) - start u) ≡ u =
-      rw (length-reading u (start u) (omega (arith, start-is u some-strand .within))) (reading-back u (start u) (omega (arith, start-is u some-strand .within)) some-strand) in
+      let s : start u ≤ length u = omega (arith, start-is u some-strand .within) in
+      let b : reading (reading u (start u)) (length (reading u (start u)) - start u) ≡ u = rw (length-reading u (start u) s) (reading-back u (start u) s some-strand) in
       ap (onStrand (strand kind w)) b ∙ strand-twice (strand kind w) w
-
-pub permitted-key : (kind : ℕ) (w : List ℕ) → Permitted kind w → Permitted kind (key kind w)
-unfolding key lowest
-permitted-key kind w p =
-    let u : List ℕ = onStrand (strand kind w) w in
-    let q : Permitted kind u = permitted-strand kind (strand kind w) w p in
-    permitted-reading kind u (start u) (omega (arith, start-is u (q .some) .within)) q
-
--- ---- the test
-
-and-true : (s t : Bool) → (s && t) ≡ true → (s ≡ true) × (t ≡ true)
-and-true true t e = (refl, e)
-and-true false t e = absurd (true≢false (sym e))
 
 -- what a ring's key has passes the test
 pub ring-passes : (kind : ℕ) (w : List ℕ) → Permitted kind w → isKey kind (key kind w) (keyStart kind w) (strand kind w) ≡ true
-unfolding isKey
-ring-passes kind w p =
-    rw (deposit-back kind w (p .some), permitted-taken kind w false p refl, equal-true {u = key kind w} refl, eq-eqb (keyStart kind w) (keyStart kind w) refl, eq-eqb (strand kind w) (strand kind w) refl)
+ring-passes kind w p = isKey-true kind (key kind w) (keyStart kind w) (strand kind w) (record { ring = w; permitted = p; letters = refl; start = refl; strands = refl })
 
--- and what passes is what the deposit's key has
+-- no other ring than the deposit has a key, start and strand
+pub one-deposit : (kind : ℕ) (k : List ℕ) (at s : ℕ) (i : IsKey kind k at s) → i .ring ≡ deposit k at s
+one-deposit kind k at s i =
+    sym (deposit-back kind (i .ring) (i .permitted .some)) ∙ ap (λ x. deposit x (keyStart kind (i .ring)) (strand kind (i .ring))) (i .letters)
+    ∙ ap₂ (deposit k) (i .start) (i .strands)
+
+-- what passes the test is what the deposit's key has
 module _ (kind : ℕ) (k : List ℕ) (at s : ℕ) (e : isKey kind k at s ≡ true) where
-  parts : (taken (verdict kind (deposit k at s) false) ≡ true) × (equal (key kind (deposit k at s)) k ≡ true)
-      × (eqb (keyStart kind (deposit k at s)) at ≡ true) × (eqb (strand kind (deposit k at s)) s ≡ true)
-  unfolding isKey
-  parts =
-      let x = and-true _ _ e in
-      let y = and-true _ _ (x .0) in
-      let z = and-true _ _ (y .0) in
-      (z .0, z .1, y .1, x .1)
+  has : IsKey kind k at s
+  has = isKey-is kind k at s e
+
+  is : has .ring ≡ deposit k at s
+  is = one-deposit kind k at s has
 
   pub passes-permitted : Permitted kind (deposit k at s)
-  passes-permitted = taken-permitted kind (deposit k at s) false (taken-is _ (parts .0)) .0
+  passes-permitted = subst (Permitted kind) is (has .permitted)
 
   pub passes-key : key kind (deposit k at s) ≡ k
-  passes-key = equal-same _ _ (parts .1)
+  passes-key = ap (key kind) (sym is) ∙ has .letters
 
   pub passes-start : keyStart kind (deposit k at s) ≡ at
-  passes-start = eqb-true _ _ (parts .2)
+  passes-start = ap (keyStart kind) (sym is) ∙ has .start
 
   pub passes-strand : strand kind (deposit k at s) ≡ s
-  passes-strand = eqb-true _ _ (parts .3)
-
-  pub isKey-is : IsKey kind k at s
-  isKey-is = record { ring = deposit k at s; permitted = passes-permitted; letters = passes-key; start = passes-start; strands = passes-strand }
+  passes-strand = ap (strand kind) (sym is) ∙ has .strands
 
   -- the start is a position of the letters
   pub passes-below : at < length k
   passes-below =
-      let h = start-below kind (deposit k at s) (passes-permitted .some) in
-      let l = length-key kind (deposit k at s) (passes-permitted .some) in
-      omega (arith, passes-start, ap length passes-key)
-
-pub isKey-true : (kind : ℕ) (k : List ℕ) (at s : ℕ) → IsKey kind k at s → isKey kind k at s ≡ true
-isKey-true kind k at s r = rw (← r .letters, ← r .start, ← r .strands) (ring-passes kind (r .ring) (r .permitted))
+      let n : 0 < length (deposit k at s) = passes-permitted .some in
+      omega (arith, start-below kind (deposit k at s) n, length-key kind (deposit k at s) n, passes-start, ap length passes-key)
 
 -- ---- the deposit as one reading of the letters
 

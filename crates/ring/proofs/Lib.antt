@@ -1,10 +1,15 @@
 pub mod Judging
 pub mod Taken
+pub mod Permits
 pub mod Equal
 pub mod Rooms
 pub mod Written
 pub mod Marks
 pub mod Keyed
+pub mod KeyPart
+pub mod KeyFit
+pub mod KeyTests
+pub mod Compared
 pub mod Rules
-pub mod Letters
+pub mod Verdicts
 pub mod Deposit

@@ -1,8 +1,9 @@
 // The ring rules: judging, factors, prefix tables, the two routes to a start, keys and comparison.
 mod answer;
+mod comparison;
 mod factor;
 mod judge;
-mod key;
+mod keys;
 mod reading;
 mod start;
 mod strand;
@@ -14,7 +15,10 @@ pub use answer::Filled;
 pub use answer::Fought;
 pub use answer::Marked;
 pub use answer::Repeated;
+pub use comparison::compare;
 pub use judge::check;
-pub use key::mark;
-pub use key::write_key;
+pub use keys::is_key;
+pub use keys::key;
+pub use keys::mark;
+pub use keys::write_key;
 pub use reading::write_reading;

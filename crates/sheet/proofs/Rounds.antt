@@ -17,8 +17,9 @@ use Rattle.words.proofs.Search.{by-test}
 use Rattle.ring.specs.Rule.{rule}
 use Rattle.ring.specs.Judging.{most, Permitted, firstBad, over}
 use Rattle.ring.proofs.Rules.{Clear, clear-join, clear-more, clear-done}
-use Rattle.ring.proofs.Letters.{permitted-clean}
-use Rattle.ring.proofs.Deposit.{length-key, deposit-back, permitted-key, ring-passes}
+use Rattle.ring.proofs.Taken.{good-all}
+use Rattle.ring.proofs.Compared.{length-key}
+use Rattle.ring.proofs.Deposit.{deposit-back, permitted-key, ring-passes}
 use Rattle.sheet.specs.declared.answer.Found.the-variants.{Sheet, Refused}
 use Rattle.sheet.specs.Sheet.{Marks, low, high, trailerOf, bytesOf, marksOf, sheetOf, depositOf, isMade}
 use Rattle.sheet.specs.Trailer.{trailer, two, wayBack, marksIn, wrongMarks, formRules, notMade, sheetRules, sheetIn, foundOf}
@@ -89,7 +90,7 @@ module _ (pre : List ℕ) (kind : ℕ) (w : List ℕ) (p : Permitted kind w) whe
                 le-ltb (length b - 8) (wayBack b) (omega arith),
                 (
                   ap (λ (x : Marks). ltb (firstBad (x .kind) (x .letters)) (length (x .letters))) e
-                      ∙ le-ltb (firstBad kind (key kind w)) (length (key kind w)) (permitted-clean kind (key kind w) (permitted-key kind w p)),
+                      ∙ le-ltb (firstBad kind (key kind w)) (length (key kind w)) (good-all kind (key kind w) (permitted-key kind w p .letters)),
                   tt,
                 ),
               ),

@@ -19,8 +19,9 @@ use Rattle.ring.specs.Judging.{Permitted, verdict, numberOf, over, after}
 use Rattle.ring.specs.Answers.{markedAs, markedOf, wroteRoom}
 use Rattle.ring.proofs.Taken.{permitted-taken}
 use Rattle.ring.proofs.Rooms.{length-over}
-use Rattle.ring.proofs.Letters.{number-refused, number-permitted, refused-any, permitted-short}
-use Rattle.ring.proofs.Deposit.{length-key, start-below}
+use Rattle.ring.proofs.Verdicts.{number-refused, number-permitted, refused-any, permitted-short}
+use Rattle.ring.proofs.Compared.{length-key}
+use Rattle.ring.proofs.Deposit.{start-below}
 use Rattle.sheet.specs.Sheet.{trailerOf, sheetOf, writeVerdict, writtenOf, writtenRoom}
 
 -- eight stores, one behind another

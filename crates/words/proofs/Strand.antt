@@ -10,7 +10,7 @@ use lib.ListN.{length, take, drop, getD, length-drop, length-map, length-reverse
 use lib.Seq.{take-at, drop-at, getD-at}
 use Rattle.words.specs.Kind.{facing}
 use Rattle.words.specs.Ring.{reading}
-use Rattle.words.specs.Strand.{opposite}
+use Rattle.words.specs.Strand.{opposite, onStrand}
 use Rattle.words.proofs.Search.{by-test, either, lt-or-ge}
 
 pub facing-twice : (a : ℕ) → facing (facing a) ≡ a
@@ -60,6 +60,14 @@ pub opposite-parts : (w : List ℕ) (i : ℕ) → i ≤ length w → reading (op
 opposite-parts w i h =
     let e : length w - (length w - i) ≡ i = omega arith in
     sym (sym (opposite-append (drop (length w - i) w) (take (length w - i) w)) ∙ opposite-back w (length w - i) ∙ ap (reading (opposite w)) e)
+
+-- ---- a ring on a strand
+
+pub length-strand : (s : ℕ) (w : List ℕ) → length (onStrand s w) ≡ length w
+length-strand s w = by-test (eqb s 1) (λ t. rw t (length-opposite w)) (λ t. rw t)
+
+pub strand-twice : (s : ℕ) (w : List ℕ) → onStrand s (onStrand s w) ≡ w
+strand-twice s w = by-test (eqb s 1) (λ t. rw t (opposite-twice w)) (λ t. rw t)
 
 -- ---- the letters of the opposite strand, one by one
 

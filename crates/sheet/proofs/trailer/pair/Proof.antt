@@ -22,7 +22,8 @@ cast-high : tie.Need-cast-high
 cast-high c = omega (arith, c .shared-slice-known2 .given (c .before .before .args .at + 1))
 
 mul-result : tie.Need-mul-result
-mul-result c = omega (arith, c .shared-slice-known2 .given (c .before .before .args .at + 1))
+mul-result c =
+    omega (arith, c .shared-slice-known2 .given (c .before .before .args .at + 1), c .shared-slice-known2 .given (c .before .before .args .at))
 
 add-result : tie.Need-add-result
 add-result c =

@@ -28,7 +28,7 @@ pub struct Strands {
 }
 
 // Both strands read; on a tie the key is on strand 0.
-pub fn read_strands(ring: &[u8]) -> Strands
+fn read_strands(ring: &[u8]) -> Strands
     requires { ⌜ (0 < length (now ring)) × (length (now ring) ≤ 8192) ⌝ }
     ensures { λ r. ⌜ r ≡ strandsOf (now (ring .entry)) ⌝ }
 {
@@ -53,7 +53,7 @@ pub fn read_strands(ring: &[u8]) -> Strands
 }
 
 // The marks on the strand that holds the key.
-pub fn chosen(s: Strands, n: usize) -> Marked
+fn chosen(s: Strands, n: usize) -> Marked
     ensures { λ r. ⌜ r ≡ markedOn s n ⌝ }
 {
     if s.strand == 1 {
@@ -75,7 +75,7 @@ pub fn chosen(s: Strands, n: usize) -> Marked
 }
 
 // What is said of a refused ring.
-pub fn refused(v: Verdict) -> Marked
+fn refused(v: Verdict) -> Marked
     ensures { λ r. ⌜ r ≡ refusedBy v ⌝ }
 {
     Marked {
@@ -148,4 +148,57 @@ pub fn write_key(ring: &[u8], kind: u8, first: &mut [u8], second: &mut [u8]) -> 
         start: a,
         strand: 0,
     }
+}
+
+// The key as a part of the room that holds it; a refused call hands back the empty front of the first room.
+pub fn key<'a>(ring: &[u8], kind: u8, first: &'a mut [u8], second: &'a mut [u8]) -> &'a mut [u8]
+    ensures { λ r. ⌜ now r ≡ keyPart kind (now (ring .entry)) (length (now (first .entry))) (length (now (second .entry))) ⌝ }
+    ensures { λ r. ⌜ r .ptr ≡ cond (inSecond kind (now (ring .entry)) (length (now (first .entry))) (length (now (second .entry)))) (second .entry .ptr) (first .entry .ptr) ⌝ }
+{
+    let m = write_key(ring, kind, first, second);
+    let n = m.n;
+    if m.strand == 1 {
+        return &mut second[..n];
+    }
+    &mut first[..n]
+}
+
+// Whether the opposite strand leaves the key to these letters: it has no lesser reading, and on strand 1 none as low.
+fn left_to(letters: &[u8], strand: u8) -> bool
+    requires { ⌜ (0 < length (now letters)) × (length (now letters) ≤ 8192) ⌝ }
+    ensures { λ r. ⌜ r ≡ leftTo (now (letters .entry)) strand ⌝ }
+{
+    let n = letters.len();
+    let mut room = [0u8; 8192];
+    copy_opposite(letters, &mut room);
+    let other = &room[..n];
+    let b = start_of(other);
+    if strand == 1 {
+        return lower(letters, 0, other, b);
+    }
+    !lower(other, b, letters, 0)
+}
+
+// Whether some permitted ring has these letters for its key, with this start and strand.
+pub fn is_key(letters: &[u8], kind: u8, start: usize, strand: u8) -> bool
+    ensures { λ r. ⌜ r ≡ isKey kind (now (letters .entry)) start strand ⌝ }
+{
+    let v = judge(letters, kind, false);
+    let Verdict::Taken = v else {
+        return false;
+    };
+    let f = first_factor(letters);
+    if f.end != letters.len() {
+        return false;
+    }
+    if f.size <= start {
+        return false;
+    }
+    if has_strands(kind) {
+        if 1 < strand {
+            return false;
+        }
+        return left_to(letters, strand);
+    }
+    strand == 0
 }

@@ -1,28 +1,27 @@
--- `ring::key::write_key` meets its contract.
+-- `ring::keys::write_key` meets its contract.
 -- Assumes nothing.
 use borrow.Author.Needs.{needs}
+use Rattle.ring.proofs.Marks.{found-within}
 use mathlib.Core.Path.{_≡_, sym, ap, _∙_}
 use native.Mathlib.Omega.{arith}
 use lib.ListN.{length}
 use Rattle.words.proofs.Strand.{length-opposite}
-use Rattle.words.specs.Strand.{opposite}
 use Rattle.ring.specs.declared.judge.Verdict.the-variants.{Taken}
-use Rattle.ring.specs.declared.key.Strands.{Strands}
+use Rattle.ring.specs.declared.keys.Strands.{Strands}
 use Rattle.ring.specs.Judging.{verdict}
 use Rattle.ring.specs.Answers.{keyVerdict}
 use Rattle.ring.proofs.Taken.{not-taken}
-use Rattle.ring.proofs.Marks.{start-within}
 use Rattle.ring.proofs.Keyed.{key-permitted, first-fits, second-fits, keyed-refused, keyed-plain, keyed-stranded}
-use Rattle.ring.proofs.key.write_key.Statement.{statement}
-use Rattle.ring.proofs.key.write_key.Tie as tie
-use Rattle.ring.proofs.key.write_key.Reads as reads
-use Rattle.ring.proofs.key.write_key.Lts as lts
+use Rattle.ring.proofs.keys.write_key.Statement.{statement}
+use Rattle.ring.proofs.keys.write_key.Tie as tie
+use Rattle.ring.proofs.keys.write_key.Reads as reads
+use Rattle.ring.proofs.keys.write_key.Lts as lts
 use Rattle.ring.proofs.judge.has_strands.Reads as has-strands-reads
 use Rattle.ring.proofs.judge.judge.Reads as judge-reads
-use Rattle.ring.proofs.key.chosen.Reads as chosen-reads
-use Rattle.ring.proofs.key.read_strands.Reads as read-strands-reads
-use Rattle.ring.proofs.key.refused.Reads as refused-reads
-use Rattle.ring.proofs.key.short_rooms.Reads as short-rooms-reads
+use Rattle.ring.proofs.keys.chosen.Reads as chosen-reads
+use Rattle.ring.proofs.keys.read_strands.Reads as read-strands-reads
+use Rattle.ring.proofs.keys.refused.Reads as refused-reads
+use Rattle.ring.proofs.keys.short_rooms.Reads as short-rooms-reads
 use Rattle.ring.proofs.reading.put_opposite.Reads as put-opposite-reads
 use Rattle.ring.proofs.reading.put_reading.Reads as put-reading-reads
 use Rattle.ring.proofs.start.start_of.Reads as start-of-reads
@@ -61,14 +60,15 @@ read-strands-requires c κs = let p = key-permitted _ _ _ _ (done-at (c .before 
 put-reading-requires : tie.Need-put-reading-requires
 put-reading-requires c κs =
     let d = c .before .before .before .before in
-    let w = d .before .before .before .before .before .before .before .args .ring .now in
-    (omega (arith, ap (λ (s : Strands). s .own) (c .before .read-strands .ensures), start-within w (key-permitted _ w _ _ (done-at d) .some)), first-fits _ w _ _ (done-at d))
+    let a = found-within _ _ (ap (λ (s : Strands). s .own) (c .before .read-strands .ensures)) (key-permitted _ _ _ _ (done-at d) .some) in
+    (omega arith, first-fits _ _ _ _ (done-at d))
 
 put-opposite-requires : tie.Need-put-opposite-requires
 put-opposite-requires c κs =
     let d = c .before .before .before .before .before .before .before .before in
     let w = d .before .before .before .before .before .before .before .args .ring .now in
-    (omega (arith, ap (λ (s : Strands). s .other) (c .before .before .before .before .before .read-strands .ensures), start-within (opposite w) (rw length-opposite (key-permitted _ w _ _ (done-at d) .some)), length-opposite w), second-fits _ w _ _ (done-at d) (sym (c .before .before .before .before .before .before .before .has-strands .ensures) ∙ c .before .before .before .before .before .before .if1 .taken))
+    let b = found-within _ _ (ap (λ (s : Strands). s .other) (c .before .before .before .before .before .read-strands .ensures)) (rw length-opposite (key-permitted _ w _ _ (done-at d) .some)) in
+    (omega (arith, length-opposite w), second-fits _ _ _ _ (done-at d) (sym (c .before .before .before .before .before .before .before .has-strands .ensures) ∙ c .before .before .before .before .before .before .if1 .taken))
 
 chosen-requires : tie.Need-chosen-requires
 chosen-requires c κs = search needs
@@ -91,8 +91,8 @@ start-of-requires c κs = key-permitted _ _ _ _ (done-at (c .before .before)) .s
 put-reading-requires-2 : tie.Need-put-reading-requires-2
 put-reading-requires-2 c κs =
     let d = c .before .before .before .before in
-    let w = d .before .before .before .before .before .before .before .args .ring .now in
-    (omega (arith, c .before .start-of .ensures, start-within w (key-permitted _ w _ _ (done-at d) .some)), first-fits _ w _ _ (done-at d))
+    let a = found-within _ _ (c .before .start-of .ensures) (key-permitted _ _ _ _ (done-at d) .some) in
+    (omega arith, first-fits _ _ _ _ (done-at d))
 
 same-length-3 : tie.Need-same-length-3
 same-length-3 c = search needs

@@ -1,10 +1,10 @@
--- `ring::key::short_rooms` meets its contract.
+-- `ring::keys::short_rooms` meets its contract.
 -- Assumes nothing.
 use borrow.Author.Needs.{needs}
 use mathlib.Core.Path.{sym, _∙_}
 use borrow.Author.Tests.{lt-ltb, le-ltb}
-use Rattle.ring.proofs.key.short_rooms.Statement.{statement}
-use Rattle.ring.proofs.key.short_rooms.Tie as tie
+use Rattle.ring.proofs.keys.short_rooms.Statement.{statement}
+use Rattle.ring.proofs.keys.short_rooms.Tie as tie
 
 returns : tie.Need-returns
 returns c = simp (lt-ltb _ _ (c .if1 .taken))

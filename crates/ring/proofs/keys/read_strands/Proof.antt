@@ -1,12 +1,13 @@
--- `ring::key::read_strands` meets its contract: the opposite strand stands at the front of a room of its own.
+-- `ring::keys::read_strands` meets its contract: the opposite strand stands at the front of a room of its own.
 -- Assumes nothing.
 use borrow.Author.Needs.{needs}
+use Rattle.ring.proofs.Marks.{found-within}
 use mathlib.Core.Path.{refl}
 use mathlib.Core.Bool.{true, false}
-use Rattle.ring.proofs.Marks.{start-within, in-room, in-room-length, strands-by}
+use Rattle.ring.proofs.Marks.{in-room, in-room-length, strands-by}
 use mathlib.Core.Path.{sym, _∙_}
-use Rattle.ring.proofs.key.read_strands.Statement.{statement}
-use Rattle.ring.proofs.key.read_strands.Tie as tie
+use Rattle.ring.proofs.keys.read_strands.Statement.{statement}
+use Rattle.ring.proofs.keys.read_strands.Tie as tie
 
 slice-aggregate-copy-opposite : tie.Need-slice-aggregate-copy-opposite
 slice-aggregate-copy-opposite c = search needs
@@ -29,7 +30,9 @@ start-of-requires-2 c κs = rw (in-room-length _ _ _ (c .before .before .before 
 lower-requires : tie.Need-lower-requires
 lower-requires c κs =
     let n = in-room-length _ _ _ (c .before .before .before .before .copy-opposite .ensures) in
-    (rw (c .start-of2 .ensures) (start-within _ (rw n (c .before .before .before .before .before .before .before .pre .0))), rw (c .before .start-of .ensures) (start-within _ (c .before .before .before .before .before .before .before .pre .0)), n)
+    let a = found-within _ _ (c .before .start-of .ensures) (c .before .before .before .before .before .before .before .pre .0) in
+    let b = found-within _ _ (c .start-of2 .ensures) (rw n (c .before .before .before .before .before .before .before .pre .0)) in
+    search needs
 
 returns : tie.Need-returns
 returns c = strands-by _ _ _ _ (in-room _ _ _ (c .before .before .before .before .before .before .copy-opposite .ensures)) (c .before .before .before .start-of .ensures) (c .before .before .start-of2 .ensures) true 1 (sym (c .if1 .taken) ∙ c .before .lower .ensures) refl

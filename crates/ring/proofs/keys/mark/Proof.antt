@@ -1,4 +1,4 @@
--- `ring::key::mark` meets its contract.
+-- `ring::keys::mark` meets its contract.
 -- Assumes nothing.
 use borrow.Author.Needs.{needs}
 use Rattle.ring.specs.Strands.{markedOn}
@@ -7,8 +7,8 @@ use lib.ListN.{length}
 use mathlib.Core.Path.{sym, ap, _∙_}
 use Rattle.ring.proofs.Taken.{not-taken, taken-permitted}
 use Rattle.ring.proofs.Marks.{marked-refused, marked-plain, marked-stranded}
-use Rattle.ring.proofs.key.mark.Statement.{statement}
-use Rattle.ring.proofs.key.mark.Tie as tie
+use Rattle.ring.proofs.keys.mark.Statement.{statement}
+use Rattle.ring.proofs.keys.mark.Tie as tie
 
 judge-requires : tie.Need-judge-requires
 judge-requires c κs = search needs

@@ -16,3 +16,6 @@ pub mod KeyPart
 pub mod KeyFit
 pub mod KeyTests
 pub mod Compared
+pub mod Rules
+pub mod Verdicts
+pub mod Deposit

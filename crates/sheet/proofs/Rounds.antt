@@ -126,7 +126,7 @@ module _ (pre : List ℕ) (kind : ℕ) (w : List ℕ) (p : Permitted kind w) whe
   -- and to its deposit
   pub round-deposit : depositOf (marksIn (pre ++ sheetOf kind w)) ≡ w
   unfolding sheetOf
-  round-deposit = ap depositOf (marks-bytes pre (marksOf kind w)) ∙ deposit-back kind w (p .some)
+  round-deposit = ap depositOf (marks-bytes pre (marksOf kind w)) ∙ deposit-back kind w p
 
   module _ (room : List ℕ) (h : length w ≤ length room) where
     restored-written : restoredOf (pre ++ sheetOf kind w) (length room) ≡ Sheet (length w) (keyStart kind w) (strand kind w) kind (length pre)

@@ -8,7 +8,7 @@ use native.Mathlib.Omega.{arith}
 use native.Mathlib.Numerals.{add-one, add-two, add-three, add-four, add-five, add-six, add-seven}
 use borrow.Author.Tests.{lt-ltb, le-ltb}
 use lib.Dec.{ltb}
-use lib.ListN.{length, take, drop, set, length-append}
+use lib.ListN.{length, take, drop, set, length-append, length-drop}
 use lib.Seq.{sets-eq, take-at, drop-append-add, drop-drop}
 use Rattle.words.specs.Ring.{reading, lowest}
 use Rattle.words.specs.Strand.{onStrand, strand, keyStart, key}
@@ -18,7 +18,6 @@ use Rattle.ring.specs.declared.answer.Marked.{Marked}
 use Rattle.ring.specs.Judging.{Permitted, verdict, numberOf, over, after}
 use Rattle.ring.specs.Answers.{markedAs, markedOf, wroteRoom}
 use Rattle.ring.proofs.Taken.{permitted-taken}
-use Rattle.ring.proofs.Rooms.{length-over}
 use Rattle.ring.proofs.Verdicts.{number-refused, number-permitted, refused-any, permitted-short}
 use Rattle.ring.proofs.Compared.{length-key}
 use Rattle.ring.proofs.Deposit.{start-below}
@@ -30,6 +29,9 @@ pub eight-set : (R : List ℕ) (n a b c d e f g h : ℕ) → n + 8 ≤ length R
     ≡ take n R ++ (a ∷ b ∷ c ∷ d ∷ e ∷ f ∷ g ∷ h ∷ []) ++ drop (n + 8) R
 eight-set R n a b c d e f g h l =
     rw (add-one, add-two, add-three, add-four, add-five, add-six, add-seven) (sets-eq (a ∷ b ∷ c ∷ d ∷ e ∷ f ∷ g ∷ h ∷ []) R n l)
+
+length-over : (new old : List ℕ) → length new ≤ length old → length (over new old) ≡ length old
+length-over new old h = rw (length-append, length-drop) (omega arith)
 
 -- the key's letters and then the trailer, over a room
 sheet-over : (kind : ℕ) (w R : List ℕ) → 0 < length w

@@ -1,4 +1,5 @@
 pub mod Judging
+pub mod Facings
 pub mod Laid
 pub mod Spacing
 pub mod Routing

@@ -2,11 +2,11 @@
 -- whose reading no other undercuts; the pairs are those the duels read, at most three a letter.
 -- Assumes nothing.
 use mathlib.Core.Path.{_≡_, refl, ap, _∙_}
-use mathlib.Core.List.{List, _++_}
+use mathlib.Core.List.{List}
 use Prim.Native.Nat.{ℕ, suc, _≤_, _<_, _+_, _-_, _*_}
 use native.Mathlib.Omega.{arith}
 use borrow.Author.Tests.{le-ltb}
-use lib.ListN.{length, take, drop, getD, List·getD-append}
+use lib.ListN.{length, take, getD, List·getD-append}
 use lib.Seq.{take-all}
 use Rattle.words.specs.Ring.{IsStart, start}
 use Rattle.words.specs.Prefix.{startTable}

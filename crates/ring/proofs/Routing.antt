@@ -1,18 +1,17 @@
 -- What the loop of the factor route keeps: the table written so far, the letters left, and the best of the runs' heads.
 -- Assumes nothing.
 use mathlib.Core.Path.{_≡_, refl, sym, ap, _∙_}
-use mathlib.Core.Bool.{true, false}
 use mathlib.Core.List.{List, [], _++_, append-nil, append-assoc}
 use Prim.Native.Nat.{ℕ, zero, suc, _≤_, _<_, _+_, _-_, _*_, _/_}
 use native.Mathlib.Omega.{arith}
 use native.Mathlib.Nat.{suc-mul, mul-div-cancel}
 use lib.ListN.{length, take, drop, length-append, length-drop}
 use lib.Seq.{take-all, drop-drop, drop-length}
-use Rattle.words.specs.Order.{before}
+use Rattle.words.specs.Least.{better}
 use Rattle.words.specs.Ring.{reading, start}
 use Rattle.words.specs.Factor.{FirstRun, factors, firsts, factorTable}
 use Rattle.words.proofs.Factor.{length-copies, run-size, run-word, run-within}
-use Rattle.words.proofs.Run.{Best, best-none, best-new, best-old, best-last}
+use Rattle.words.proofs.Run.{Best, best-none, best-next, best-last}
 use borrow.Rule.Slice.PartMut.{putMid}
 use Rattle.ring.specs.Judging.{over}
 use Rattle.ring.specs.Spaced.{spaced}
@@ -103,11 +102,8 @@ module _ (w o t r : List ℕ) (from count best : ℕ) (k : Routing w o t r from 
         })
 
     -- the run is passed, and its head compared with the best so far
-    pub routing-new : 0 < length r → before (reading w from) (reading w best) ≡ true → Best w (from + e) from
-    routing-new h q = best-new w from p e (rw (k .rest) at f) best (omega (arith, routing-left)) (k .lowest) q
-
-    pub routing-old : 0 < length r → before (reading w from) (reading w best) ≡ false → Best w (from + e) best
-    routing-old h q = best-old w from p e (rw (k .rest) at f) best (omega (arith, routing-left)) (k .lowest) q
+    pub routing-best : 0 < length r → Best w (from + e) (better (reading w) from best)
+    routing-best h = best-next w from p e (rw (k .rest) at f) best (omega (arith, routing-left)) (k .lowest)
 
   -- no letter is left
   pub routing-end : length r ≤ 0 → 0 < length w → (count ≡ length (factorTable w)) × (best ≡ start w) × (t ≡ over (factorTable w) o)

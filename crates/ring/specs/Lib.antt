@@ -4,4 +4,5 @@ pub mod Judging
 pub mod Answers
 -- What only the contracts of inner functions cite
 pub mod Spaced
+pub mod Facings
 pub mod Strands

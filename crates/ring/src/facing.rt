@@ -1,9 +1,10 @@
 // The opposite letter, by a table of every byte.
 ghost use mathlib.Core.Path.{_≡_};
-ghost use Rattle.words.specs.Kind as kinds;
+ghost use Rattle.words.specs.Kind as facings;
+ghost use Rattle.ring.specs.Facings.{facingTable};
 
 // The letter opposite to each byte: A and T exchanged, C and G exchanged, every other byte itself.
-const FACING: [u8; 256] = [
+pub const FACING: [u8; 256] = [
     0,
     1,
     2,
@@ -263,8 +264,9 @@ const FACING: [u8; 256] = [
 ];
 
 // The opposite letter, looked up in the table.
-pub fn opposite_letter(a: u8) -> u8
-    ensures { λ r. ⌜ r ≡ kinds.facing a ⌝ }
+pub fn look_up(table: &[u8; 256], a: u8) -> u8
+    requires { ⌜ now table ≡ facingTable ⌝ }
+    ensures { λ r. ⌜ r ≡ facings.facing a ⌝ }
 {
-    FACING[a as usize]
+    table[a as usize]
 }

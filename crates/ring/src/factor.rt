@@ -12,7 +12,7 @@ use super::judge::Verdict;
 use super::judge::judge;
 use super::judge::number_of;
 use super::judge::place_of;
-use super::reading::lower;
+use super::reading::lower_of;
 
 // How long the first factor is, and where the run of factors equal to it ends.
 pub struct Run {
@@ -83,9 +83,7 @@ fn fill_factors(ring: &[u8], table: &mut [u16]) -> Route
         let times = end / size;
         write_run(&mut table[count..], from, size, times);
         count += times;
-        if lower(ring, from, ring, best) {
-            best = from;
-        }
+        best = lower_of(ring, from, best);
         from += end;
         rest = &rest[end..];
     }

@@ -5,6 +5,7 @@ ghost use Prim.Native.Nat.{_+_, _<_, _≤_};
 ghost use lib.Dec.{ltb};
 ghost use lib.ListN.{length};
 ghost use Rattle.words.specs.Ring.{around, reading};
+ghost use Rattle.words.specs.Least.{better};
 ghost use Rattle.words.specs.Order.{before};
 ghost use Rattle.words.specs.Strand.{opposite};
 ghost use Rattle.ring.specs.Judging.{over};
@@ -37,6 +38,20 @@ pub fn lower(u: &[u8], i: usize, v: &[u8], j: usize) -> bool
         k += 1;
     }
     false
+}
+
+// Of two positions of a ring the one whose reading is lower, the second if they are equal.
+pub fn lower_of(ring: &[u8], c: usize, b: usize) -> usize
+    requires { ⌜ (c < length (now ring)) × (b < length (now ring)) ⌝ }
+    ensures { λ r. ⌜ r ≡ better (reading (now (ring .entry))) c b ⌝ }
+{
+    if c == b {
+        return b;
+    }
+    if lower(ring, c, ring, b) {
+        return c;
+    }
+    b
 }
 
 // Whether the reading at `i` of `u` is the reading at `j` of `v`, a ring as long.

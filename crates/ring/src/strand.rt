@@ -4,7 +4,8 @@ ghost use Prim.Native.Nat.{_≤_};
 ghost use lib.ListN.{length};
 ghost use Rattle.words.specs.Strand.{opposite};
 ghost use Rattle.ring.specs.Judging.{over};
-use super::facing::opposite_letter;
+use super::facing::FACING;
+use super::facing::look_up;
 
 // Writes letters to the front of a room.
 pub fn copy(from: &[u8], to: &mut [u8])
@@ -24,10 +25,11 @@ pub fn copy_opposite(from: &[u8], to: &mut [u8])
     requires { ⌜ length (now from) ≤ length (now to) ⌝ }
     ensures { λ _. ⌜ now (to .exit) ≡ over (opposite (now (from .entry))) (now (to .entry)) ⌝ }
 {
+    let table = FACING;
     let n = from.len();
     let mut i = 0;
     while i < n {
-        to[i] = opposite_letter(from[n - 1 - i]);
+        to[i] = look_up(&table, from[n - 1 - i]);
         i += 1;
     }
 }

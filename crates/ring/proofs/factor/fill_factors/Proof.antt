@@ -1,23 +1,17 @@
 -- `ring::factor::fill_factors` meets its contract. The invariant is `Routing`.
 -- Assumes nothing.
-use mathlib.Core.Path.{_≡_, refl, sym, _∙_}
-use Prim.Native.Nat.{_+_, _-_}
+use mathlib.Core.Path.{_≡_}
+use Prim.Native.Nat.{_-_}
 use native.Mathlib.Omega.{arith}
 use borrow.Author.Needs.{needs}
 use lib.ListN.{length, drop, length-drop}
 use lib.Seq.{length-take-le}
-use Rattle.words.proofs.Run.{Best, best-below}
-use Rattle.words.proofs.Search.{either}
+use Rattle.words.proofs.Run.{best-below}
 use Rattle.words.proofs.Factor.{run-within}
-use Rattle.ring.proofs.Routing.{Routing, routing-none, routing-left, routing-fits, routing-next, routing-end, run-some, run-product, run-few, routing-room, routing-new, routing-old}
+use Rattle.ring.proofs.Routing.{Routing, routing-none, routing-left, routing-fits, routing-next, routing-end, run-some, run-product, run-few, routing-room, routing-best}
 use Rattle.ring.proofs.Laid.{laid-size}
 use Rattle.ring.proofs.factor.fill_factors.Statement.{statement}
 use Rattle.ring.proofs.factor.fill_factors.Tie as tie
-use Rattle.ring.proofs.factor.fill_factors.Reads as reads
-use Rattle.ring.proofs.factor.fill_factors.Lts as lts
-use Rattle.ring.proofs.factor.first_factor.Reads as first-factor-reads
-use Rattle.ring.proofs.factor.write_run.Reads as write-run-reads
-use Rattle.ring.proofs.reading.lower.Reads as lower-reads
 
 abbrev Inv-loop : tie.InvT-loop
 Inv-loop ring table₀ rest₀ from₀ count₀ best₀ table rest from count best =
@@ -25,18 +19,6 @@ Inv-loop ring table₀ rest₀ from₀ count₀ best₀ table rest from count be
 
 abbrev μ-loop : tie.MeasureT-loop
 μ-loop ring table₀ rest₀ from₀ count₀ best₀ table rest from count best = length rest
-
-abbrev Joined : Type 0
-Joined = lts.Joined1 (first-factor-reads.Asked, first-factor-reads.Learnt, write-run-reads.Asked, write-run-reads.Learnt, lower-reads.Asked, lower-reads.Learnt) reads.Pre reads.Post Inv-loop μ-loop
-
--- the best of the runs' heads, this run's with them
-best-at : (c : Joined) → Best (c .before .before .before .before .before .before .before .before .before .before .before .args .ring .now)
-    (c .before .before .before .before .before .before .before .before .loop .from + c .before .before .before .before .before .before .first-factor .result .end) (c .if1 .best)
-best-at c =
-    let k = c .before .before .before .before .before .before .before .before .loop .inv .1 in
-    let f = c .before .before .before .before .before .before .first-factor .ensures in
-    let e = sym (c .before .lower .ensures) in
-    either (c .if1 .came) (λ w. rw (w .1) (routing-new _ _ _ _ _ _ _ k _ _ f (search needs) (e ∙ w .0 .taken))) (λ w. rw (w .1) (routing-old _ _ _ _ _ _ _ k _ _ f (search needs) (e ∙ w .0 .left)))
 
 loop-holds : tie.Need-loop-holds Inv-loop μ-loop
 loop-holds c = (search needs, routing-none _ _)
@@ -71,35 +53,36 @@ write-run-requires c κs =
 add-count : tie.Need-add-count Inv-loop μ-loop
 add-count c = omega (arith, run-few _ _ _ (c .before .before .before .before .first-factor .ensures), routing-room _ _ _ _ _ _ _ (c .before .before .before .before .before .before .loop .inv .1) _ _ (c .before .before .before .before .first-factor .ensures) (search needs) .1)
 
-lower-requires : tie.Need-lower-requires Inv-loop μ-loop
-lower-requires c κs =
+lower-of-requires : tie.Need-lower-of-requires Inv-loop μ-loop
+lower-of-requires c κs =
     let k = c .before .before .before .before .before .before .loop .inv .1 in
-    (omega (arith, routing-left _ _ _ _ _ _ _ k, k .within), best-below _ _ _ (search needs) (k .lowest), refl)
+    (omega (arith, routing-left _ _ _ _ _ _ _ k, k .within), best-below _ _ _ (search needs) (k .lowest))
 
 add-from : tie.Need-add-from Inv-loop μ-loop
-add-from c = omega (arith, routing-fits _ _ _ _ _ _ _ (c .before .before .before .before .before .before .before .before .loop .inv .1) _ _ (c .before .before .before .before .before .before .first-factor .ensures))
+add-from c = omega (arith, routing-fits _ _ _ _ _ _ _ (c .before .before .before .before .before .before .before .loop .inv .1) _ _ (c .before .before .before .before .before .first-factor .ensures))
 
 sub-rest : tie.Need-sub-rest Inv-loop μ-loop
-sub-rest c = run-within _ _ _ (c .before .before .before .before .before .before .first-factor .ensures)
+sub-rest c = run-within _ _ _ (c .before .before .before .before .before .first-factor .ensures)
 
 part-rest-start : tie.Need-part-rest-start Inv-loop μ-loop
-part-rest-start c = (let h = run-within _ _ _ (c .before .before .before .before .before .before .first-factor .ensures) in search needs)
+part-rest-start c = (let h = run-within _ _ _ (c .before .before .before .before .before .first-factor .ensures) in search needs)
 
 part-rest-end : tie.Need-part-rest-end Inv-loop μ-loop
-part-rest-end c = (let h = run-within _ _ _ (c .before .before .before .before .before .before .first-factor .ensures) in search needs)
+part-rest-end c = (let h = run-within _ _ _ (c .before .before .before .before .before .first-factor .ensures) in search needs)
 
 loop-less : tie.Need-loop-less Inv-loop μ-loop
 loop-less c =
-    let f = c .before .before .before .before .before .before .before .first-factor .ensures in
-    let r = c .before .before .before .before .before .before .before .before .before .loop .rest .now in
-    let e = c .before .before .before .before .before .before .before .first-factor .result .end in
+    let f = c .before .before .before .before .before .before .first-factor .ensures in
+    let r = c .before .before .before .before .before .before .before .before .loop .rest .now in
+    let e = c .before .before .before .before .before .before .first-factor .result .end in
     omega (arith, length-take-le (length r - e) (drop e r) (rw length-drop (omega arith)), length-drop e r, run-some _ _ _ f, f .within)
 
 loop-again : tie.Need-loop-again Inv-loop μ-loop
 loop-again c =
-    let k = c .before .before .before .before .before .before .before .before .before .loop .inv .1 in
-    let f = c .before .before .before .before .before .before .before .first-factor .ensures in
-    let n = routing-next _ _ _ _ _ _ _ k _ _ f _ _ (search needs) (c .before .before .before .before .before .write-run .ensures) (best-at (c .before)) in
+    let k = c .before .before .before .before .before .before .before .before .loop .inv .1 in
+    let f = c .before .before .before .before .before .before .first-factor .ensures in
+    let h = rw (← c .before .lower-of .ensures) at (routing-best _ _ _ _ _ _ _ k _ _ f (search needs)) in
+    let n = routing-next _ _ _ _ _ _ _ k _ _ f _ _ (search needs) (c .before .before .before .before .write-run .ensures) h in
     (laid-size _ _ _ (n .laid), n)
 
 same-length : tie.Need-same-length Inv-loop μ-loop
@@ -123,7 +106,7 @@ fill-factors-spec =
     part-write-run-end
     write-run-requires
     add-count
-    lower-requires
+    lower-of-requires
     add-from
     sub-rest
     part-rest-start

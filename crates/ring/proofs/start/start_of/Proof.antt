@@ -2,20 +2,19 @@
 -- Assumes nothing.
 use borrow.Author.Needs.{needs}
 use Prim.Native.Nat.{_+_, _≤_, _-_}
-use mathlib.Core.Path.{_≡_, sym, _∙_}
+use mathlib.Core.Path.{_≡_}
 use native.Mathlib.Omega.{arith}
 use lib.ListN.{length, drop, length-drop}
 use lib.Seq.{take-all}
 use Rattle.words.specs.Factor.{FirstRun}
-use Rattle.words.proofs.Search.{either}
 use Rattle.words.proofs.Factor.{run-within, run-word, run-size}
-use Rattle.words.proofs.Run.{Best, best-none, best-new, best-old, best-last, best-below}
+use Rattle.words.proofs.Run.{Best, best-none, best-next, best-last, best-below}
 use Rattle.ring.proofs.start.start_of.Statement.{statement}
 use Rattle.ring.proofs.start.start_of.Tie as tie
 use Rattle.ring.proofs.start.start_of.Reads as reads
 use Rattle.ring.proofs.start.start_of.Lts as lts
 use Rattle.ring.proofs.factor.first_factor.Reads as first-factor-reads
-use Rattle.ring.proofs.reading.lower.Reads as lower-reads
+use Rattle.ring.proofs.reading.lower_of.Reads as lower-of-reads
 
 abbrev Inv-loop : tie.InvT-loop
 Inv-loop s n best₀ m₀ best m = (n ≡ length s) × (m ≤ n) × Best s m best
@@ -24,7 +23,7 @@ abbrev μ-loop : tie.MeasureT-loop
 μ-loop s n best₀ m₀ best m = n - m
 
 abbrev Searched : Type 0
-Searched = lts.After-first-factor (first-factor-reads.Asked, first-factor-reads.Learnt, lower-reads.Asked, lower-reads.Learnt) reads.Pre reads.Post Inv-loop μ-loop
+Searched = lts.After-first-factor (first-factor-reads.Asked, first-factor-reads.Learnt, lower-of-reads.Asked, lower-of-reads.Learnt) reads.Pre reads.Post Inv-loop μ-loop
 
 -- the first run of the letters from m on
 run-at : (c : Searched) → FirstRun (drop (c .before .before .before .loop .m) (c .before .before .before .before .before .args .s .now)) (c .first-factor .result .size) (c .first-factor .result .end)
@@ -48,22 +47,20 @@ part-first-factor-end c = search needs
 first-factor-requires : tie.Need-first-factor-requires Inv-loop μ-loop
 first-factor-requires c κs = search needs
 
-lower-requires : tie.Need-lower-requires Inv-loop μ-loop
-lower-requires c κs = (search needs, best-below _ _ _ (c .before .before .before .before .before .pre) (c .before .before .before .loop .inv .2), search needs)
+lower-of-requires : tie.Need-lower-of-requires Inv-loop μ-loop
+lower-of-requires c κs = (search needs, best-below _ _ _ (c .before .before .before .before .before .pre) (c .before .before .before .loop .inv .2))
 
 add-m : tie.Need-add-m Inv-loop μ-loop
-add-m c = omega (arith, run-fits (c .before .before .before))
+add-m c = omega (arith, run-fits (c .before .before))
 
 loop-less : tie.Need-loop-less Inv-loop μ-loop
-loop-less c = omega (arith, run-fits (c .before .before .before), run-at (c .before .before .before) .within, run-word _ _ _ (run-at (c .before .before .before)) .some, run-size _ _ _ (run-at (c .before .before .before)))
+loop-less c = omega (arith, run-fits (c .before .before), run-at (c .before .before) .within, run-word _ _ _ (run-at (c .before .before)) .some, run-size _ _ _ (run-at (c .before .before)))
 
 loop-again : tie.Need-loop-again Inv-loop μ-loop
 loop-again c =
-    let d = c .before .before .before in
-    let h = d .before .before .loop-test .taken in
-    let k = d .before .before .before .loop .inv .2 in
-    let e = sym (c .before .before .lower .ensures) in
-    (search needs, omega (arith, run-fits d), either (c .before .if1 .came) (λ w. rw (w .1) (best-new _ _ _ _ (run-at d) _ h k (e ∙ w .0 .taken))) (λ w. rw (w .1) (best-old _ _ _ _ (run-at d) _ h k (e ∙ w .0 .left))))
+    let d = c .before .before in
+    let b = best-next _ _ _ _ (run-at d) _ (d .before .before .loop-test .taken) (d .before .before .before .loop .inv .2) in
+    (search needs, run-fits d, rw (c .before .lower-of .ensures) b)
 
 returns : tie.Need-returns Inv-loop μ-loop
 returns c =
@@ -82,7 +79,7 @@ start-of-spec =
     part-first-factor-start
     part-first-factor-end
     first-factor-requires
-    lower-requires
+    lower-of-requires
     add-m
     loop-less
     loop-again

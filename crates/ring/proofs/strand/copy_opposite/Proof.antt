@@ -2,34 +2,36 @@
 -- Assumes nothing.
 use borrow.Author.Needs.{needs}
 use Prim.Native.Nat.{_-_}
-use mathlib.Core.Path.{_≡_, sym, _∙_}
+use mathlib.Core.Path.{_≡_, refl, sym, _∙_}
 use lib.ListN.{length}
 use Rattle.words.specs.Strand.{opposite}
+use Rattle.ring.specs.Facings.{facingTable}
 use Rattle.words.proofs.Strand.{length-opposite, opposite-at}
 use Rattle.ring.proofs.Rooms.{Partly, partly-none, partly-one, partly-all}
 use Rattle.ring.proofs.strand.copy_opposite.Statement.{statement}
 use Rattle.ring.proofs.strand.copy_opposite.Tie as tie
 
 abbrev Inv-loop : tie.InvT-loop
-Inv-loop from to₀ n i₀ to i = (n ≡ length from) × Partly (opposite from) to₀ to i × (length to ≡ length to₀)
+Inv-loop from to₀ table n i₀ to i = (n ≡ length from) × Partly (opposite from) to₀ to i × (length to ≡ length to₀)
 
 abbrev μ-loop : tie.MeasureT-loop
-μ-loop from to₀ n i₀ to i = n - i
+μ-loop from to₀ table n i₀ to i = n - i
 
 loop-holds : tie.Need-loop-holds Inv-loop μ-loop
 loop-holds c = (search needs, partly-none _ _ (rw length-opposite (search needs)), search needs)
 
-sub-opposite-letter : tie.Need-sub-opposite-letter Inv-loop μ-loop
-sub-opposite-letter c = search needs
+sub-look-up : tie.Need-sub-look-up Inv-loop μ-loop
+sub-look-up c = search needs
 
-sub-opposite-letter-2 : tie.Need-sub-opposite-letter-2 Inv-loop μ-loop
-sub-opposite-letter-2 c = search needs
+sub-look-up-2 : tie.Need-sub-look-up-2 Inv-loop μ-loop
+sub-look-up-2 c = search needs
 
-shared-slice-read-opposite-letter : tie.Need-shared-slice-read-opposite-letter Inv-loop μ-loop
-shared-slice-read-opposite-letter c = search needs
+shared-slice-read-look-up : tie.Need-shared-slice-read-look-up Inv-loop μ-loop
+shared-slice-read-look-up c = search needs
 
-opposite-letter-requires : tie.Need-opposite-letter-requires Inv-loop μ-loop
-opposite-letter-requires c κs = search needs
+look-up-requires : tie.Need-look-up-requires Inv-loop μ-loop
+unfolding facingTable
+look-up-requires c κs = refl
 
 slice-write-to : tie.Need-slice-write-to Inv-loop μ-loop
 slice-write-to c = search needs
@@ -42,7 +44,7 @@ loop-less c = search needs
 
 loop-again : tie.Need-loop-again Inv-loop μ-loop
 loop-again c =
-    (search needs, partly-one _ _ _ _ _ (c .before .before .before .loop .inv .1) (rw length-opposite (search needs)) (c .opposite-letter .ensures ∙ sym (opposite-at _ _ (search needs))), search needs)
+    (search needs, partly-one _ _ _ _ _ (c .before .before .before .before .loop .inv .1) (rw length-opposite (search needs)) (c .look-up .ensures ∙ sym (opposite-at _ _ (search needs))), search needs)
 
 same-length : tie.Need-same-length Inv-loop μ-loop
 same-length c = search needs
@@ -57,10 +59,10 @@ copy-opposite-spec =
     Inv-loop
     μ-loop
     loop-holds
-    sub-opposite-letter
-    sub-opposite-letter-2
-    shared-slice-read-opposite-letter
-    opposite-letter-requires
+    sub-look-up
+    sub-look-up-2
+    shared-slice-read-look-up
+    look-up-requires
     slice-write-to
     add-i
     loop-less

@@ -1,0 +1,32 @@
+-- What a host finds in its values: the answer's fields without the number, in their order.
+-- Assumes nothing.
+use mathlib.Core.Bool.{cond}
+use mathlib.Core.List.{List, [], _∷_}
+use Prim.Native.Nat.{ℕ}
+use lib.Dec.{ltb}
+use lib.ListN.{length}
+use Rattle.ring.specs.Judging.{over}
+use Rattle.ring.specs.declared.answer.Checked.{Checked}
+use Rattle.ring.specs.declared.answer.Factored.{Factored}
+use Rattle.ring.specs.declared.answer.Filled.{Filled}
+use Rattle.ring.specs.declared.answer.Fought.{Fought}
+use Rattle.ring.specs.declared.answer.Repeated.{Repeated}
+
+-- written to the front; too few values stay as they are
+unfoldable pub told : List ℕ → List ℕ → List ℕ
+told fields values = cond (ltb (length values) (length fields)) values (over fields values)
+
+abbrev pub checkedFields : Checked → List ℕ
+checkedFields a = a .place ∷ []
+
+abbrev pub factoredFields : Factored → List ℕ
+factoredFields a = a .place ∷ a .count ∷ a .start ∷ []
+
+abbrev pub filledFields : Filled → List ℕ
+filledFields a = a .place ∷ []
+
+abbrev pub foughtFields : Fought → List ℕ
+foughtFields a = a .place ∷ a .start ∷ a .pairs ∷ []
+
+abbrev pub repeatedFields : Repeated → List ℕ
+repeatedFields a = a .place ∷ a .repeat ∷ []

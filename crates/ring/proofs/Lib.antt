@@ -3,3 +3,14 @@ pub mod Laid
 pub mod Spacing
 pub mod Routing
 pub mod Exactly
+pub mod Taken
+pub mod Permits
+pub mod Equal
+pub mod Rooms
+pub mod Written
+pub mod Marks
+pub mod Keyed
+pub mod KeyPart
+pub mod KeyFit
+pub mod KeyTests
+pub mod Compared

@@ -1,4 +1,5 @@
 pub mod Rule
 pub mod Judging
 pub mod Spaced
+pub mod Strands
 pub mod Answers

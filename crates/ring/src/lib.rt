@@ -1,12 +1,16 @@
 // The ring rules: judging, factors, prefix tables, the two routes to a start, keys and comparison.
 mod answer;
+mod comparison;
 mod duels;
 mod factor;
 mod judge;
+mod keys;
 mod matches;
 mod periods;
 mod reading;
+mod start;
 mod start_table;
+mod strand;
 mod suffix;
 
 pub use answer::Checked;
@@ -16,9 +20,15 @@ pub use answer::Filled;
 pub use answer::Fought;
 pub use answer::Marked;
 pub use answer::Repeated;
+pub use comparison::compare;
 pub use duels::duel;
 pub use factor::factors;
 pub use judge::check;
+pub use keys::is_key;
+pub use keys::key;
+pub use keys::mark;
+pub use keys::write_key;
 pub use periods::repeat;
+pub use reading::write_reading;
 pub use start_table::starts;
 pub use suffix::suffixes;

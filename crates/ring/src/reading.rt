@@ -1,9 +1,17 @@
-// Readings of a ring: a letter round it, and two readings compared.
+// Readings of a ring: a letter round it, two readings compared, and a reading written.
 ghost use mathlib.Core.Path.{_≡_};
+ghost use mathlib.Core.Bool.{cond};
 ghost use Prim.Native.Nat.{_+_, _<_, _≤_};
+ghost use lib.Dec.{ltb};
 ghost use lib.ListN.{length};
 ghost use Rattle.words.specs.Ring.{around, reading};
 ghost use Rattle.words.specs.Order.{before};
+ghost use Rattle.words.specs.Strand.{opposite};
+ghost use Rattle.ring.specs.Judging.{over};
+ghost use Rattle.ring.specs.Answers.{equal, wroteOf, wroteRoom};
+use super::answer::Filled;
+use super::strand::copy;
+use super::strand::copy_opposite;
 
 // The letter at position `i` round the ring.
 pub fn letter(s: &[u8], i: usize) -> u8
@@ -29,4 +37,76 @@ pub fn lower(u: &[u8], i: usize, v: &[u8], j: usize) -> bool
         k += 1;
     }
     false
+}
+
+// Whether the reading at `i` of `u` is the reading at `j` of `v`, a ring as long.
+pub fn same_reading(u: &[u8], i: usize, v: &[u8], j: usize) -> bool
+    requires { ⌜ (i < length (now u)) × (j < length (now v)) × (length (now u) ≡ length (now v)) ⌝ }
+    ensures { λ r. ⌜ r ≡ equal (reading (now (u .entry)) i) (reading (now (v .entry)) j) ⌝ }
+{
+    let n = u.len();
+    let mut k: usize = 0;
+    while k < n {
+        let a = letter(u, i + k);
+        let b = letter(v, j + k);
+        if a != b {
+            return false;
+        }
+        k += 1;
+    }
+    true
+}
+
+// Writes the reading at `at` to the front of a room, as two straight runs.
+pub fn put_reading(w: &[u8], at: usize, room: &mut [u8])
+    requires { ⌜ (at ≤ length (now w)) × (length (now w) ≤ length (now room)) ⌝ }
+    ensures { λ _. ⌜ now (room .exit) ≡ over (reading (now (w .entry)) at) (now (room .entry)) ⌝ }
+{
+    let rest = w.len() - at;
+    copy(&w[at..], room);
+    copy(&w[..at], &mut room[rest..]);
+}
+
+// Writes the reading at `at` of the opposite strand to the front of a room, as two straight runs.
+pub fn put_opposite(w: &[u8], at: usize, room: &mut [u8])
+    requires { ⌜ (at ≤ length (now w)) × (length (now w) ≤ length (now room)) ⌝ }
+    ensures { λ _. ⌜ now (room .exit) ≡ over (reading (opposite (now (w .entry))) at) (now (room .entry)) ⌝ }
+{
+    let rest = w.len() - at;
+    copy_opposite(&w[..rest], room);
+    copy_opposite(&w[rest..], &mut room[rest..]);
+}
+
+// A position, or the length for one beyond it: from there on a reading is the ring as it stands.
+fn up_to(at: usize, n: usize) -> usize
+    ensures { λ r. ⌜ r ≡ cond (ltb n at) n at ⌝ }
+{
+    if n < at {
+        return n;
+    }
+    at
+}
+
+// The reading at a start of a strand, written to a lent room; 4 where the room is short is the only refusal.
+pub fn write_reading(letters: &[u8], strand: u8, start: usize, room: &mut [u8]) -> Filled
+    ensures { λ r. ⌜ r ≡ wroteOf (now (letters .entry)) (length (now (room .entry))) ⌝ }
+    ensures { λ r. ⌜ now (room .exit) ≡ wroteRoom (now (letters .entry)) strand start (now (room .entry)) ⌝ }
+{
+    let n = letters.len();
+    if room.len() < n {
+        return Filled {
+            number: 4,
+            place: 0,
+        };
+    }
+    let at = up_to(start, n);
+    if strand == 1 {
+        put_opposite(letters, at, room);
+    } else {
+        put_reading(letters, at, room);
+    }
+    Filled {
+        number: 0,
+        place: 0,
+    }
 }

@@ -17,6 +17,8 @@ pub mod Run
 pub mod Runs
 pub mod Repeat
 pub mod RingRepeat
+pub mod Necklace
+pub mod TurnBack
 pub mod Paired
 pub mod Beaten
 pub mod Duel

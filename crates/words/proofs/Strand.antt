@@ -1,16 +1,17 @@
 -- The opposite letter and the opposite strand: each undoes itself; the opposite strand turns with the ring.
 -- Assumes nothing.
-use mathlib.Core.Path.{_≡_, refl, ap, _∙_}
-use mathlib.Core.List.{List, [], _∷_, _++_, map, reverseAux, reverse-reverse, reverse-append, map-append}
-use Prim.Native.Nat.{ℕ, _-_}
+use mathlib.Core.Path.{_≡_, refl, sym, ap, _∙_}
+use mathlib.Core.List.{List, [], _∷_, _++_, map, reverse, reverseAux, reverse-cons, reverse-reverse, reverse-append, map-append}
+use Prim.Native.Nat.{ℕ, suc, _≤_, _<_, _-_}
+use native.Mathlib.Omega.{arith}
 use lib.Dec.{eqb}
 use borrow.Author.Tests.{eqb-true}
-use lib.ListN.{length, take, drop, length-drop, length-map, length-reverse, take-append-drop}
-use lib.Seq.{take-at, drop-at}
+use lib.ListN.{length, take, drop, getD, length-drop, length-map, length-reverse, take-append-drop, List·getD-append, List·getD-map}
+use lib.Seq.{take-at, drop-at, getD-at}
 use Rattle.words.specs.Kind.{facing}
 use Rattle.words.specs.Ring.{reading}
-use Rattle.words.specs.Strand.{opposite}
-use Rattle.words.proofs.Search.{by-test}
+use Rattle.words.specs.Strand.{opposite, onStrand}
+use Rattle.words.proofs.Search.{by-test, either, lt-or-ge}
 
 pub facing-twice : (a : ℕ) → facing (facing a) ≡ a
 facing-twice a =
@@ -49,3 +50,39 @@ pub opposite-reading : (w : List ℕ) (i : ℕ) → opposite (reading w i) ≡ r
 unfolding reading
 opposite-reading w i =
     opposite-turned (take i w) (drop i w) ∙ ap (λ x. reading (opposite x) (length (drop i w))) (take-append-drop i w) ∙ ap (reading (opposite w)) (length-drop i w)
+
+opposite-back : (w : List ℕ) (i : ℕ) → opposite (drop i w ++ take i w) ≡ reading (opposite w) (length w - i)
+unfolding reading
+opposite-back w i = opposite-reading w i
+
+-- a reading of the opposite strand is two straight runs, each turned over
+pub opposite-parts : (w : List ℕ) (i : ℕ) → i ≤ length w → reading (opposite w) i ≡ opposite (take (length w - i) w) ++ opposite (drop (length w - i) w)
+opposite-parts w i h =
+    let e : length w - (length w - i) ≡ i = omega arith in
+    sym (sym (opposite-append (drop (length w - i) w) (take (length w - i) w)) ∙ opposite-back w (length w - i) ∙ ap (reading (opposite w)) e)
+
+-- ---- a ring on a strand
+
+pub length-strand : (s : ℕ) (w : List ℕ) → length (onStrand s w) ≡ length w
+length-strand s w = by-test (eqb s 1) (λ t. rw t (length-opposite w)) (λ t. rw t)
+
+pub strand-twice : (s : ℕ) (w : List ℕ) → onStrand s (onStrand s w) ≡ w
+strand-twice s w = by-test (eqb s 1) (λ t. rw t (opposite-twice w)) (λ t. rw t)
+
+-- ---- the letters of the opposite strand, one by one
+
+reverse-at : (l : List ℕ) (i : ℕ) → i < length l → getD (reverse l) i 0 ≡ getD l (length l - 1 - i) 0
+reverse-at [] i h = absurd (omega arith)
+reverse-at (x ∷ l) i h =
+    ap (λ z. getD z i 0) (reverse-cons x l)
+    ∙ either (lt-or-ge i (length l))
+    (λ m. let e : suc (length l) - 1 - i ≡ suc (length l - 1 - i) = omega arith in
+    List·getD-append (reverse l) (x ∷ []) 0 i (rw length-reverse m) ∙ reverse-at l i m ∙ sym (ap (λ k. getD (x ∷ l) k 0) e))
+    (λ m. let e : suc (length l) - 1 - i ≡ 0 = omega arith in
+    let n : length (reverse l) ≡ i = length-reverse l ∙ omega arith in
+    getD-at (reverse l) x [] 0 i n ∙ sym (ap (λ k. getD (x ∷ l) k 0) e))
+
+pub opposite-at : (w : List ℕ) (i : ℕ) → i < length w → getD (opposite w) i 0 ≡ facing (getD w (length w - 1 - i) 0)
+unfolding opposite
+opposite-at w i h =
+    reverse-at (map facing w) i (rw length-map h) ∙ ap (λ n. getD (map facing w) (n - 1 - i) 0) (length-map w facing) ∙ List·getD-map facing w (length w - 1 - i) 0

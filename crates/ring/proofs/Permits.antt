@@ -1,0 +1,60 @@
+-- A permitted ring stays one when it is turned, and so does its opposite strand.
+-- Assumes nothing.
+use mathlib.Core.Path.{_≡_}
+use mathlib.Core.Bool.{true}
+use mathlib.Core.List.{List}
+use Prim.Native.Nat.{ℕ, _≤_, _<_, _+_, _-_, _%_}
+use native.Mathlib.Omega.{arith}
+use native.Mathlib.Nat.{mod-lt}
+use borrow.Author.Tests.{eqb-true}
+use lib.Dec.{eqb}
+use lib.ListN.{length, getD}
+use Rattle.words.specs.Kind.{isLetter, facing}
+use Rattle.words.specs.Ring.{reading, around, lowest, start}
+use Rattle.words.specs.Strand.{opposite, onStrand}
+use Rattle.words.proofs.Search.{by-test}
+use Rattle.words.proofs.Ring.{start-is}
+use Rattle.words.proofs.Turn.{length-reading, reading-at}
+use Rattle.words.proofs.Strand.{length-opposite, opposite-at}
+use Rattle.ring.specs.Judging.{Permitted}
+
+-- the letter opposite is a letter
+facing-letter : (kind a : ℕ) → isLetter kind a ≡ true → isLetter kind (facing a) ≡ true
+facing-letter kind a h =
+    by-test (eqb kind 0) (λ t. rw t)
+    (λ t. by-test (eqb a 65) (λ e. rw (t, eqb-true a 65 e))
+    (λ e. by-test (eqb a 84) (λ f. rw (t, eqb-true a 84 f))
+    (λ f. by-test (eqb a 67) (λ g. rw (t, eqb-true a 67 g))
+    (λ g. by-test (eqb a 71) (λ i. rw (t, eqb-true a 71 i)) (λ i. simp (t, e, f, g, i) (simp (t, e, f, g, i) at h))))))
+
+around-letter : (kind : ℕ) (w : List ℕ) (i : ℕ) → Permitted kind w → isLetter kind (around w i) ≡ true
+unfolding around
+around-letter kind w i p = p .letters (i % length w) (mod-lt i (p .some))
+
+pub permitted-reading : (kind : ℕ) (w : List ℕ) (i : ℕ) → i ≤ length w → Permitted kind w → Permitted kind (reading w i)
+permitted-reading kind w i h p =
+    let n : length (reading w i) ≡ length w = length-reading w i h in
+    record {
+      kinds = p .kinds;
+      some = rw n (p .some);
+      within = rw n (p .within);
+      letters = λ j l. rw (reading-at w i j h (rw n at l)) (around-letter kind w (i + j) p);
+    }
+
+pub permitted-lowest : (kind : ℕ) (w : List ℕ) → Permitted kind w → Permitted kind (lowest w)
+unfolding lowest
+permitted-lowest kind w p = permitted-reading kind w (start w) (omega (arith, start-is w (p .some) .within)) p
+
+pub permitted-opposite : (kind : ℕ) (w : List ℕ) → Permitted kind w → Permitted kind (opposite w)
+permitted-opposite kind w p =
+    let n : length (opposite w) ≡ length w = length-opposite w in
+    record {
+      kinds = p .kinds;
+      some = rw n (p .some);
+      within = rw n (p .within);
+      letters = λ j l. let m : j < length w = rw n at l in
+          rw (opposite-at w j m) (facing-letter kind (getD w (length w - 1 - j) 0) (p .letters (length w - 1 - j) (omega arith)));
+    }
+
+pub permitted-strand : (kind s : ℕ) (w : List ℕ) → Permitted kind w → Permitted kind (onStrand s w)
+permitted-strand kind s w p = by-test (eqb s 1) (λ t. rw t (permitted-opposite kind w p)) (λ t. rw t p)

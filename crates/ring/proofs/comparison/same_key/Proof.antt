@@ -1,0 +1,61 @@
+-- `ring::comparison::same_key` meets its contract.
+-- Assumes nothing.
+use borrow.Author.Needs.{needs}
+use Rattle.ring.proofs.Marks.{found-within}
+use mathlib.Core.Path.{sym, ap, _∙_}
+use Rattle.words.specs.Ring.{reading, lowest}
+use Rattle.words.specs.Strand.{opposite}
+use Rattle.ring.specs.Answers.{equal}
+use Rattle.ring.proofs.Compared.{same-length, same-own, same-plain, same-other, read-same, read-differ}
+use Rattle.ring.proofs.comparison.same_key.Statement.{statement}
+use Rattle.ring.proofs.comparison.same_key.Tie as tie
+
+returns : tie.Need-returns
+returns c = same-length _ _ _ (c .before .before .before .pre .0) (c .before .before .before .pre .2) (c .if1 .taken)
+
+start-of-requires : tie.Need-start-of-requires
+start-of-requires c κs = search needs
+
+start-of-requires-2 : tie.Need-start-of-requires-2
+start-of-requires-2 c κs = search needs
+
+same-reading-requires : tie.Need-same-reading-requires
+same-reading-requires c κs =
+    let a = found-within _ _ (c .before .start-of .ensures) (c .before .before .before .before .before .pre .0) in
+    let b = found-within _ _ (c .start-of2 .ensures) (c .before .before .before .before .before .pre .2) in
+    search needs
+
+returns-2 : tie.Need-returns-2
+returns-2 c = same-own _ _ _ (c .before .before .before .before .before .before .before .pre .0) (c .before .before .before .before .before .before .before .pre .2) (read-same _ _ _ _ (c .before .before .before .start-of .ensures) (c .before .before .start-of2 .ensures) (sym (c .before .same-reading .ensures) ∙ c .if2 .taken))
+
+has-strands-requires : tie.Need-has-strands-requires
+has-strands-requires c κs = search needs
+
+same-opposite-requires : tie.Need-same-opposite-requires
+same-opposite-requires c κs = let b = found-within _ _ (c .before .before .before .before .start-of2 .ensures) (c .before .before .before .before .before .before .before .before .before .pre .2) in search needs
+
+returns-3 : tie.Need-returns-3
+unfolding lowest
+returns-3 c =
+    let n = read-differ _ _ _ _ (c .before .before .before .before .before .before .start-of .ensures) (c .before .before .before .before .before .start-of2 .ensures) (sym (c .before .before .before .before .same-reading .ensures) ∙ c .before .before .before .if2 .left) in
+    same-other _ _ _ (c .before .before .before .before .before .before .before .before .before .before .pre .0) (c .before .before .before .before .before .before .before .before .before .before .pre .2) n (sym (c .before .before .has-strands .ensures) ∙ c .before .if3 .taken) _
+    (c .same-opposite .ensures ∙ ap (λ i. equal (lowest (opposite (c .before .before .before .before .before .before .before .before .before .before .args .first .now))) (reading (c .before .before .before .before .before .before .before .before .before .before .args .second .now) i)) (c .before .before .before .before .before .start-of2 .ensures))
+
+returns-4 : tie.Need-returns-4
+returns-4 c =
+    let n = read-differ _ _ _ _ (c .before .before .before .before .before .start-of .ensures) (c .before .before .before .before .start-of2 .ensures) (sym (c .before .before .before .same-reading .ensures) ∙ c .before .before .if2 .left) in
+    same-plain _ _ _ (c .before .before .before .before .before .before .before .before .before .pre .0) (c .before .before .before .before .before .before .before .before .before .pre .2) n (sym (c .before .has-strands .ensures) ∙ c .if3 .left)
+
+pub same-key-spec : {M : Type 1} → statement M
+same-key-spec =
+    tie.close
+    (tie.spec
+    returns
+    start-of-requires
+    start-of-requires-2
+    same-reading-requires
+    returns-2
+    has-strands-requires
+    same-opposite-requires
+    returns-3
+    returns-4)

@@ -1,0 +1,29 @@
+-- The two strands of a base ring: their starts, the strand that holds the key, and the key's marks from these.
+-- Assumes nothing.
+use mathlib.Core.Bool.{Bool, cond, not}
+use mathlib.Core.List.{List}
+use Prim.Native.Nat.{ℕ}
+use lib.Dec.{eqb}
+use Rattle.words.specs.Order.{before}
+use Rattle.words.specs.Ring.{start, lowest}
+use Rattle.words.specs.Strand.{opposite}
+use Rattle.ring.specs.declared.judge.Verdict.{Verdict}
+use Rattle.ring.specs.declared.answer.Marked.{Marked}
+use Rattle.ring.specs.declared.keys.Strands.{Strands}
+use Rattle.ring.specs.Judging.{numberOf, placeOf}
+
+-- the start as given, the start of the opposite strand, and 1 where the opposite strand's lowest reading is the lesser, else 0
+abbrev pub strandsOf : List ℕ → Strands
+strandsOf w = record { own = start w; other = start (opposite w); strand = cond (before (lowest (opposite w)) (lowest w)) 1 0 }
+
+-- a ring done: the marks on the strand so named
+abbrev pub markedOn : Strands → ℕ → Marked
+markedOn s n = record { number = 0; place = 0; n = n; start = cond (eqb (s .strand) 1) (s .other) (s .own); strand = s .strand }
+
+-- a ring refused
+abbrev pub refusedBy : Verdict → Marked
+refusedBy v = record { number = numberOf v; place = placeOf v; n = 0; start = 0; strand = 0 }
+
+-- whether the opposite strand leaves the key to letters that are their own lowest reading: on strand 1 only if its own is greater
+abbrev pub leftTo : List ℕ → ℕ → Bool
+leftTo w s = cond (eqb s 1) (before w (lowest (opposite w))) (not (before (lowest (opposite w)) w))

@@ -1,0 +1,78 @@
+// The comparison of two rings of one kind.
+ghost use mathlib.Core.Path.{_≡_};
+ghost use Prim.Native.Nat.{_<_, _≤_};
+ghost use lib.ListN.{length};
+ghost use Rattle.words.specs.Ring.{start, reading, lowest};
+ghost use Rattle.words.specs.Strand.{opposite};
+ghost use Rattle.ring.specs.Answers.{equal, sameKey, comparedOf};
+use super::answer::Compared;
+use super::judge::Verdict;
+use super::judge::has_strands;
+use super::judge::judge;
+use super::judge::number_of;
+use super::judge::place_of;
+use super::reading::same_reading;
+use super::start::start_of;
+use super::strand::copy_opposite;
+
+// Whether the lowest reading of the first ring's opposite strand is the reading at `at` of the second.
+fn same_opposite(first: &[u8], second: &[u8], at: usize) -> bool
+    requires { ⌜ (0 < length (now first)) × (length (now first) ≤ 8192) × (length (now first) ≡ length (now second)) × (at < length (now second)) ⌝ }
+    ensures { λ r. ⌜ r ≡ equal (lowest (opposite (now (first .entry)))) (reading (now (second .entry)) at) ⌝ }
+{
+    let n = first.len();
+    let mut room = [0u8; 8192];
+    copy_opposite(first, &mut room);
+    let other = &room[..n];
+    let c = start_of(other);
+    same_reading(other, c, second, at)
+}
+
+// Whether two permitted rings have one key: the lowest readings agree, or those of the first's opposite strand and the second.
+fn same_key(kind: u8, first: &[u8], second: &[u8]) -> bool
+    requires { ⌜ (0 < length (now first)) × (length (now first) ≤ 8192) × (0 < length (now second)) ⌝ }
+    ensures { λ r. ⌜ r ≡ sameKey kind (now (first .entry)) (now (second .entry)) ⌝ }
+{
+    if first.len() != second.len() {
+        return false;
+    }
+    let a = start_of(first);
+    let b = start_of(second);
+    if same_reading(first, a, second, b) {
+        return true;
+    }
+    if has_strands(kind) {
+        return same_opposite(first, second, b);
+    }
+    false
+}
+
+// The first ring is judged in full before the second; a refused comparison holds no.
+pub fn compare(kind: u8, first: &[u8], second: &[u8]) -> Compared
+    ensures { λ r. ⌜ r ≡ comparedOf kind (now (first .entry)) (now (second .entry)) ⌝ }
+{
+    let v = judge(first, kind, false);
+    let Verdict::Taken = v else {
+        return Compared {
+            number: number_of(v),
+            place: place_of(v),
+            ring: 1,
+            same: false,
+        };
+    };
+    let u = judge(second, kind, false);
+    let Verdict::Taken = u else {
+        return Compared {
+            number: number_of(u),
+            place: place_of(u),
+            ring: 2,
+            same: false,
+        };
+    };
+    Compared {
+        number: 0,
+        place: 0,
+        ring: 0,
+        same: same_key(kind, first, second),
+    }
+}

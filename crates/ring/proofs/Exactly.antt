@@ -1,4 +1,4 @@
--- Each number is given exactly when 01 says: the first rule of the order 6, 1, 2, 3, 4 that holds.
+-- Which rule answered: the first of the order 6, 1, 2, 3, 4 that holds; what a verdict of Taken says.
 -- Assumes nothing.
 use mathlib.Core.Path.{_≡_, refl, sym, ap, _∙_}
 use mathlib.Core.Bool.{Bool, true, false, true≢false}
@@ -35,7 +35,7 @@ good-before kind (a ∷ w) (suc i) h =
     (λ t. let k : suc i < suc (firstBad kind w) = rw t at h in good-before kind w i (omega arith))
     (λ t. absurd (let k : suc i < 0 = rw t at h in omega arith))
 
-all-letters : (kind : ℕ) (w : List ℕ) → ((i : ℕ) → i < length w → isLetter kind (getD w i 0) ≡ true) → length w ≤ firstBad kind w
+pub all-letters : (kind : ℕ) (w : List ℕ) → ((i : ℕ) → i < length w → isLetter kind (getD w i 0) ≡ true) → length w ≤ firstBad kind w
 all-letters kind w l =
     either (lt-or-ge (firstBad kind w) (length w)) (λ h. absurd (true≢false (sym (l _ h) ∙ bad-here kind w h))) (λ h. h)
 
@@ -87,9 +87,3 @@ module _ (kind : ℕ) (w : List ℕ) (short : Bool) where
   pub fits-taken : Permitted kind w → short ≡ false → verdict kind w short ≡ Taken
   fits-taken p e =
       says-taken kind w short (leb-true kind 1 (p .kinds)) (λ z. omega (arith, p .some)) (p .within) (all-letters kind w (p .letters)) e
-
--- ---- exactly when
-
-infix 15 _↔_
-abbrev pub _↔_ : Type 0 → Type 0 → Type 0
-A ↔ B = (A → B) × (B → A)

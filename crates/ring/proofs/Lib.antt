@@ -14,3 +14,5 @@ pub mod KeyPart
 pub mod KeyFit
 pub mod KeyTests
 pub mod Compared
+pub mod Numbers
+pub mod Determined

@@ -11,6 +11,8 @@ use Rattle.ring.specs.declared.answer.Factored.{Factored}
 use Rattle.ring.specs.declared.answer.Filled.{Filled}
 use Rattle.ring.specs.declared.answer.Fought.{Fought}
 use Rattle.ring.specs.declared.answer.Repeated.{Repeated}
+use Rattle.ring.specs.declared.answer.Marked.{Marked}
+use Rattle.ring.specs.declared.answer.Compared.{Compared}
 
 -- written to the front; too few values stay as they are
 unfoldable pub told : List ℕ → List ℕ → List ℕ
@@ -30,3 +32,14 @@ foughtFields a = a .place ∷ a .start ∷ a .pairs ∷ []
 
 abbrev pub repeatedFields : Repeated → List ℕ
 repeatedFields a = a .place ∷ a .repeat ∷ []
+
+abbrev pub markedFields : Marked → List ℕ
+markedFields a = a .place ∷ a .n ∷ a .start ∷ a .strand ∷ []
+
+-- a part: the room it stands in, 0 the first and 1 the second, and its length
+abbrev pub keyFields : Marked → List ℕ → List ℕ
+keyFields a part = a .strand ∷ length part ∷ []
+
+-- a yes is told as 1, a no as 0
+abbrev pub comparedFields : Compared → List ℕ
+comparedFields a = a .place ∷ a .ring ∷ cond (a .same) 1 0 ∷ []

@@ -1,8 +1,8 @@
--- `probe::probe_duel` meets its contract.
+-- `probe::rings::probe_duel` meets its contract.
 -- Assumes nothing.
 use borrow.Author.Needs.{needs}
-use Rattle.probe.proofs.probe_duel.Statement.{statement}
-use Rattle.probe.proofs.probe_duel.Tie as tie
+use Rattle.probe.proofs.rings.probe_duel.Statement.{statement}
+use Rattle.probe.proofs.rings.probe_duel.Tie as tie
 
 duel-requires : tie.Need-duel-requires
 duel-requires c κs = search needs

@@ -1,8 +1,8 @@
--- `probe::probe_factors` meets its contract.
+-- `probe::rings::probe_factors` meets its contract.
 -- Assumes nothing.
 use borrow.Author.Needs.{needs}
-use Rattle.probe.proofs.probe_factors.Statement.{statement}
-use Rattle.probe.proofs.probe_factors.Tie as tie
+use Rattle.probe.proofs.rings.probe_factors.Statement.{statement}
+use Rattle.probe.proofs.rings.probe_factors.Tie as tie
 
 factors-requires : tie.Need-factors-requires
 factors-requires c κs = search needs

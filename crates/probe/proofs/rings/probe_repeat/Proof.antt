@@ -1,8 +1,8 @@
--- `probe::probe_repeat` meets its contract.
+-- `probe::rings::probe_repeat` meets its contract.
 -- Assumes nothing.
 use borrow.Author.Needs.{needs}
-use Rattle.probe.proofs.probe_repeat.Statement.{statement}
-use Rattle.probe.proofs.probe_repeat.Tie as tie
+use Rattle.probe.proofs.rings.probe_repeat.Statement.{statement}
+use Rattle.probe.proofs.rings.probe_repeat.Tie as tie
 
 repeat-requires : tie.Need-repeat-requires
 repeat-requires c κs = search needs

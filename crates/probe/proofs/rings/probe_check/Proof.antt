@@ -1,8 +1,8 @@
--- `probe::probe_check` meets its contract.
+-- `probe::rings::probe_check` meets its contract.
 -- Assumes nothing.
 use borrow.Author.Needs.{needs}
-use Rattle.probe.proofs.probe_check.Statement.{statement}
-use Rattle.probe.proofs.probe_check.Tie as tie
+use Rattle.probe.proofs.rings.probe_check.Statement.{statement}
+use Rattle.probe.proofs.rings.probe_check.Tie as tie
 
 check-requires : tie.Need-check-requires
 check-requires c κs = search needs

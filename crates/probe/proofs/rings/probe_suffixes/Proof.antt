@@ -1,8 +1,8 @@
--- `probe::probe_suffixes` meets its contract.
+-- `probe::rings::probe_suffixes` meets its contract.
 -- Assumes nothing.
 use borrow.Author.Needs.{needs}
-use Rattle.probe.proofs.probe_suffixes.Statement.{statement}
-use Rattle.probe.proofs.probe_suffixes.Tie as tie
+use Rattle.probe.proofs.rings.probe_suffixes.Statement.{statement}
+use Rattle.probe.proofs.rings.probe_suffixes.Tie as tie
 
 suffixes-requires : tie.Need-suffixes-requires
 suffixes-requires c κs = search needs

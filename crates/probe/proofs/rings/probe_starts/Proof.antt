@@ -1,8 +1,8 @@
--- `probe::probe_starts` meets its contract.
+-- `probe::rings::probe_starts` meets its contract.
 -- Assumes nothing.
 use borrow.Author.Needs.{needs}
-use Rattle.probe.proofs.probe_starts.Statement.{statement}
-use Rattle.probe.proofs.probe_starts.Tie as tie
+use Rattle.probe.proofs.rings.probe_starts.Statement.{statement}
+use Rattle.probe.proofs.rings.probe_starts.Tie as tie
 
 starts-requires : tie.Need-starts-requires
 starts-requires c κs = search needs

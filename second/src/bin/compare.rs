@@ -1,0 +1,185 @@
+//! Compares the library with the second program on many rings. One line with the number of calls, or the first difference.
+use second::cases::{self, Numbers};
+use second::comparison::Comparison;
+use second::{facts, keys, rules, words};
+use std::collections::HashSet;
+use std::time::Instant;
+
+/// Every call on one ring that is lent enough, and the tables and rooms one entry short and one entry longer.
+fn ring(c: &mut Comparison, kind: u8, ring: &[u8], numbers: &mut Numbers) {
+    let n = ring.len();
+    let taken = rules::judge(kind, ring, false).is_ok();
+    let facts = taken.then(|| facts::of(ring));
+    let key = taken.then(|| keys::key(kind, ring));
+    let more = numbers.below(4);
+    c.check(kind, ring);
+    c.tables(kind, ring, n + more, facts.as_ref());
+    c.alone(kind, ring, facts.as_ref(), key.as_ref());
+    c.rooms(kind, ring, n + more, if kind == 0 { numbers.below(n + 2) } else { n + numbers.below(3) }, key.as_ref());
+    c.reading(ring, numbers.below(3) as u8, numbers.below(n + 3), n + more);
+    let turned = words::reading(ring, numbers.below(n.max(1)) % n.max(1));
+    c.compare(kind, ring, &turned);
+    c.compare(kind, ring, &words::opposite(&turned));
+    let mut other = turned;
+    if n > 0 {
+        let at = numbers.below(n);
+        other[at] = b"ACGT"[numbers.below(4)];
+    }
+    c.compare(kind, &other, ring);
+    if let (Some(facts), Some(key)) = (&facts, &key) {
+        let made = |start: usize, strand: u8| keys::is_key(kind, &key.letters, start, strand);
+        for strand in 0..3 {
+            for start in [key.start, key.start + 1, facts.repeat, 0, n, n + 1] {
+                let want = strand < 2 && made(start, strand);
+                c.is_key(kind, &key.letters, start, strand, want);
+            }
+        }
+        let want = keys::is_key(kind, ring, 0, 0);
+        c.is_key(kind, ring, 0, 0, want);
+    }
+}
+
+/// Tables and rooms of every size about n.
+fn sizes(c: &mut Comparison, kind: u8, ring: &[u8]) {
+    let n = ring.len();
+    let taken = rules::judge(kind, ring, false).is_ok();
+    let facts = taken.then(|| facts::of(ring));
+    let key = taken.then(|| keys::key(kind, ring));
+    let about = [0, n.saturating_sub(2), n.saturating_sub(1), n, n + 1, n + 9];
+    for size in about {
+        c.tables(kind, ring, size, facts.as_ref());
+        for second in about {
+            c.rooms(kind, ring, size, second, key.as_ref());
+        }
+        for strand in [0, 1, 2, 255] {
+            for start in [0, 1, n.saturating_sub(1), n, n + 1, usize::MAX] {
+                c.reading(ring, strand, start, size);
+            }
+        }
+    }
+}
+
+/// Whether some ring made each key, start and strand: all rings of n letters are tried.
+fn every_key(c: &mut Comparison, alphabet: &[u8], longest: usize) {
+    for kind in [0, 1] {
+        let mut made = HashSet::new();
+        cases::every(alphabet, longest, |ring| {
+            let key = keys::key(kind, ring);
+            made.insert((key.letters, key.start, key.strand));
+        });
+        cases::every(alphabet, longest, |letters| {
+            for start in 0..=letters.len() + 1 {
+                for strand in 0..3 {
+                    let want = made.contains(&(letters.to_vec(), start, strand));
+                    c.is_key(kind, letters, start, strand, want);
+                }
+            }
+        });
+    }
+}
+
+/// Every refusal, and rings that meet several: the first in the order decides.
+fn refusals(c: &mut Comparison) {
+    let mut rings: Vec<Vec<u8>> = vec![vec![], b"A".to_vec(), b"N".to_vec(), b"GANA".to_vec(), b"GATTACA".to_vec()];
+    rings.push(b"acgt".to_vec());
+    rings.push(b"ACGT\n".to_vec());
+    rings.push(vec![0; 3]);
+    for n in [rules::MOST - 1, rules::MOST, rules::MOST + 1, rules::MOST + 2, 20_000] {
+        for bad in [None, Some(0), Some(n - 1), Some(n / 2)] {
+            let mut ring = cases::over(b"GATTACA", n);
+            if let Some(at) = bad {
+                ring[at] = b'N';
+            }
+            rings.push(ring);
+        }
+    }
+    for kind in [0, 1, 2, 3, 127, 128, 255] {
+        for ring in &rings {
+            let n = ring.len();
+            let taken = rules::judge(kind, ring, false).is_ok();
+            let facts = taken.then(|| facts::of(ring));
+            let key = taken.then(|| keys::key(kind, ring));
+            c.check(kind, ring);
+            c.alone(kind, ring, facts.as_ref(), key.as_ref());
+            for size in [0, n.saturating_sub(1), n, n + 1] {
+                c.tables(kind, ring, size, facts.as_ref());
+                for second in [0, n.saturating_sub(1), n, n + 1] {
+                    c.rooms(kind, ring, size, second, key.as_ref());
+                }
+                c.reading(ring, kind, n / 2, size);
+            }
+            for other in &rings {
+                c.compare(kind, ring, other);
+            }
+            for strand in [0, 1, 2] {
+                let want = taken && strand < 2 && keys::is_key(kind, ring, 0, strand);
+                c.is_key(kind, ring, 0, strand, want);
+            }
+        }
+    }
+    // each byte as the one wrong letter of a base ring
+    for byte in 0..=255 {
+        for at in 0..3 {
+            let mut ring = b"GAT".to_vec();
+            ring[at] = byte;
+            c.check(1, &ring);
+            c.compare(1, b"GAT", &ring);
+            c.compare(1, &ring, b"GAN");
+        }
+    }
+}
+
+/// The second program's two ways agree where both can run.
+fn agree(alphabet: &[u8], longest: usize) {
+    cases::every(alphabet, longest, |ring| {
+        if facts::by_definition(ring) != facts::by_other_methods(ring) {
+            eprintln!("the second program's two ways differ on {ring:?}");
+            std::process::exit(1);
+        }
+    });
+}
+
+fn main() {
+    let begun = Instant::now();
+    let mut c = Comparison::new();
+    let mut numbers = Numbers::new(7);
+    let done = |what: &str, c: &Comparison| println!("{:>6.1} s  {:>9} calls  {what}", begun.elapsed().as_secs_f64(), c.calls);
+
+    agree(b"AC", 11);
+    agree(b"ACGT", 5);
+    refusals(&mut c);
+    done("refusals and their collisions", &c);
+    for kind in [0, 1] {
+        cases::every(b"AC", 14, |w| ring(&mut c, kind, w, &mut numbers));
+        cases::every(b"AT", 11, |w| ring(&mut c, kind, w, &mut numbers));
+        cases::every(b"ACGT", 7, |w| ring(&mut c, kind, w, &mut numbers));
+    }
+    cases::every(&[0, 10, 65, 127, 128, 255], 5, |w| ring(&mut c, 0, w, &mut numbers));
+    done("every ring over AC to 14, AT to 11, ACGT to 7, six bytes to 5", &c);
+    for kind in [0, 1] {
+        cases::every(b"ACGT", 4, |w| sizes(&mut c, kind, w));
+    }
+    every_key(&mut c, b"ACGT", 5);
+    every_key(&mut c, b"AT", 9);
+    for kind in [0, 1] {
+        cases::every(b"ACGT", 4, |first| cases::every(b"ACGT", 4, |second| c.compare(kind, first, second)));
+    }
+    done("sizes of tables and rooms, letters judged as keys, pairs of rings", &c);
+    for n in (15..=130).chain([255, 256, 257, 511, 512, 513, 1000]) {
+        for word in cases::families(&mut numbers, n) {
+            for kind in [0, 1] {
+                ring(&mut c, kind, &word, &mut numbers);
+            }
+        }
+    }
+    done("families from 15 to 1,000 letters", &c);
+    for n in [4096, 8191, 8192] {
+        for word in cases::families(&mut numbers, n) {
+            ring(&mut c, 1, &word, &mut numbers);
+        }
+        let bytes: Vec<u8> = (0..n).map(|_| numbers.next() as u8).collect();
+        ring(&mut c, 0, &bytes, &mut numbers);
+    }
+    done("families to 8,192 letters", &c);
+    println!("{} calls of the library agree with the second program", c.calls);
+}

@@ -8,6 +8,7 @@ pub mod facts;
 pub mod keys;
 pub mod lent;
 pub mod long;
+pub mod plain;
 pub mod probe;
 pub mod rules;
 pub mod sheets;

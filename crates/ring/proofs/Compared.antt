@@ -21,7 +21,7 @@ use Rattle.ring.specs.Answers.{equal, sameKey, comparedOf}
 use Rattle.ring.proofs.Taken.{permitted-taken}
 use Rattle.ring.proofs.Equal.{equal-true, equal-same, equal-false}
 
-length-key : (kind : ℕ) (w : List ℕ) → 0 < length w → length (key kind w) ≡ length w
+pub length-key : (kind : ℕ) (w : List ℕ) → 0 < length w → length (key kind w) ≡ length w
 unfolding key
 length-key kind w h =
     let n : length (onStrand (strand kind w) w) ≡ length w = length-strand (strand kind w) w in

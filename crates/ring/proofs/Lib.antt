@@ -16,3 +16,6 @@ pub mod KeyTests
 pub mod Compared
 pub mod Numbers
 pub mod Determined
+pub mod Rules
+pub mod Verdicts
+pub mod Deposit

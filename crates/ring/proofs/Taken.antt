@@ -38,13 +38,13 @@ taken-is Short e = absurd (true≢false (sym e))
 
 -- ---- no bad letter
 
-good-at : (kind : ℕ) (w : List ℕ) → length w ≤ firstBad kind w → (i : ℕ) → i < length w → isLetter kind (getD w i 0) ≡ true
+pub good-at : (kind : ℕ) (w : List ℕ) → length w ≤ firstBad kind w → (i : ℕ) → i < length w → isLetter kind (getD w i 0) ≡ true
 good-at kind [] h i l = absurd (omega arith)
 good-at kind (a ∷ w) h zero l = by-test (isLetter kind a) (λ t. t) (λ t. absurd (omega (arith, simp t at h)))
 good-at kind (a ∷ w) h (suc i) l =
     by-test (isLetter kind a) (λ t. good-at kind w (omega (arith, simp t at h)) i (omega arith)) (λ t. absurd (omega (arith, simp t at h)))
 
-good-all : (kind : ℕ) (w : List ℕ) → ((i : ℕ) → i < length w → isLetter kind (getD w i 0) ≡ true) → length w ≤ firstBad kind w
+pub good-all : (kind : ℕ) (w : List ℕ) → ((i : ℕ) → i < length w → isLetter kind (getD w i 0) ≡ true) → length w ≤ firstBad kind w
 good-all kind [] h = omega arith
 good-all kind (a ∷ w) h = rw (h 0 (omega arith)) (let r = good-all kind w (λ i l. h (suc i) (omega arith)) in omega arith)
 

@@ -1,0 +1,88 @@
+-- The deposit is the one ring that has a key with its start and strand.
+-- Assumes nothing.
+use mathlib.Core.Path.{_≡_, refl, sym, ap, ap₂, _∙_, subst}
+use mathlib.Core.Bool.{true}
+use mathlib.Core.List.{List}
+use Prim.Native.Nat.{ℕ, _≤_, _<_, _-_}
+use native.Mathlib.Omega.{arith}
+use borrow.Author.Tests.{eq-eqb, ne-eqb}
+use lib.ListN.{length}
+use Rattle.words.specs.Ring.{reading, start, lowest}
+use Rattle.words.specs.Strand.{opposite, onStrand, strand, keyStart, key}
+use Rattle.words.proofs.Ring.{start-is}
+use Rattle.words.proofs.Turn.{length-reading, reading-back}
+use Rattle.words.proofs.Strand.{opposite-reading, length-strand, strand-twice}
+use Rattle.ring.specs.Judging.{Permitted}
+use Rattle.ring.specs.Answers.{IsKey, deposit, isKey}
+use Rattle.ring.proofs.Permits.{permitted-lowest, permitted-strand}
+use Rattle.ring.proofs.KeyFit.{isKey-is, isKey-true}
+use Rattle.ring.proofs.Compared.{length-key}
+
+pub permitted-key : (kind : ℕ) (w : List ℕ) → Permitted kind w → Permitted kind (key kind w)
+unfolding key
+permitted-key kind w p = permitted-lowest kind (onStrand (strand kind w) w) (permitted-strand kind (strand kind w) w p)
+
+module _ (kind : ℕ) (w : List ℕ) (h : 0 < length w) where
+  some-strand : 0 < length (onStrand (strand kind w) w)
+  some-strand = rw length-strand h
+
+  pub start-below : keyStart kind w < length w
+  unfolding keyStart
+  start-below = omega (arith, start-is (onStrand (strand kind w) w) some-strand .within, length-strand (strand kind w) w)
+
+  -- the key of a ring, turned back, is the ring
+  pub deposit-back : deposit (key kind w) (keyStart kind w) (strand kind w) ≡ w
+  unfolding deposit key keyStart lowest
+  deposit-back =
+      let u : List ℕ = onStrand (strand kind w) w in
+      let s : start u ≤ length u = omega (arith, start-is u some-strand .within) in
+      let b : reading (reading u (start u)) (length (reading u (start u)) - start u) ≡ u = rw (length-reading u (start u) s) (reading-back u (start u) s some-strand) in
+      ap (onStrand (strand kind w)) b ∙ strand-twice (strand kind w) w
+
+-- what a ring's key has passes the test
+pub ring-passes : (kind : ℕ) (w : List ℕ) → Permitted kind w → isKey kind (key kind w) (keyStart kind w) (strand kind w) ≡ true
+ring-passes kind w p = isKey-true kind (key kind w) (keyStart kind w) (strand kind w) (record { ring = w; permitted = p; letters = refl; start = refl; strands = refl })
+
+-- no other ring than the deposit has a key, start and strand
+pub one-deposit : (kind : ℕ) (k : List ℕ) (at s : ℕ) (i : IsKey kind k at s) → i .ring ≡ deposit k at s
+one-deposit kind k at s i =
+    sym (deposit-back kind (i .ring) (i .permitted .some)) ∙ ap (λ x. deposit x (keyStart kind (i .ring)) (strand kind (i .ring))) (i .letters)
+    ∙ ap₂ (deposit k) (i .start) (i .strands)
+
+-- what passes the test is what the deposit's key has
+module _ (kind : ℕ) (k : List ℕ) (at s : ℕ) (e : isKey kind k at s ≡ true) where
+  has : IsKey kind k at s
+  has = isKey-is kind k at s e
+
+  is : has .ring ≡ deposit k at s
+  is = one-deposit kind k at s has
+
+  pub passes-permitted : Permitted kind (deposit k at s)
+  passes-permitted = subst (Permitted kind) is (has .permitted)
+
+  pub passes-key : key kind (deposit k at s) ≡ k
+  passes-key = ap (key kind) (sym is) ∙ has .letters
+
+  pub passes-start : keyStart kind (deposit k at s) ≡ at
+  passes-start = ap (keyStart kind) (sym is) ∙ has .start
+
+  pub passes-strand : strand kind (deposit k at s) ≡ s
+  passes-strand = ap (strand kind) (sym is) ∙ has .strands
+
+  -- the start is a position of the letters
+  pub passes-below : at < length k
+  passes-below =
+      let n : 0 < length (deposit k at s) = passes-permitted .some in
+      omega (arith, start-below kind (deposit k at s) n, length-key kind (deposit k at s) n, passes-start, ap length passes-key)
+
+-- ---- the deposit as one reading of the letters
+
+pub deposit-other : (k : List ℕ) (at s : ℕ) → s ≡ 1 → at ≤ length k → deposit k at s ≡ reading (onStrand 1 k) at
+unfolding deposit
+deposit-other k at s e h =
+    let f : length k - (length k - at) ≡ at = omega arith in
+    rw (eq-eqb s 1 e) (opposite-reading k (length k - at) ∙ ap (reading (opposite k)) f)
+
+pub deposit-own : (k : List ℕ) (at s : ℕ) → (s ≡ 1 → ⊥) → deposit k at s ≡ reading (onStrand 0 k) (length k - at)
+unfolding deposit
+deposit-own k at s e = rw (ne-eqb s 1 e)

@@ -1,0 +1,9 @@
+pub mod Rounds
+pub mod Accepted
+pub mod Replies
+pub mod Told
+pub mod Writing
+pub mod Books
+pub mod Walking
+pub mod Numbers
+pub mod Examples

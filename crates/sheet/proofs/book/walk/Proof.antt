@@ -1,0 +1,67 @@
+-- `sheet::book::walk` meets its contract. The loop's invariant: the walk of the book is the walk of what is left, with the sheets found behind it. The measure is what is left.
+-- Assumes nothing.
+use borrow.Author.Needs.{needs}
+use mathlib.Core.Path.{sym, _∙_}
+use native.Mathlib.Omega.{arith}
+use Rattle.sheet.proofs.Walking.{Walking, walking-first, size-rest, walking-less, walking-on, walking-refused, walking-last}
+use Rattle.sheet.proofs.book.walk.Statement.{statement}
+use Rattle.sheet.proofs.book.walk.Tie as tie
+
+abbrev Inv-loop : tie.InvT-loop
+Inv-loop book rest₀ sheets₀ rest sheets = Walking book rest sheets
+
+abbrev μ-loop : tie.MeasureT-loop
+μ-loop book rest₀ sheets₀ rest sheets = rest
+
+loop-holds : tie.Need-loop-holds Inv-loop μ-loop
+loop-holds c = walking-first _
+
+slice-aggregate-trailer : tie.Need-slice-aggregate-trailer Inv-loop μ-loop
+slice-aggregate-trailer c = sym (size-rest (c .before .before .before .before .args .book .now) _ _ (c .before .before .loop .inv) (c .before .loop-test .taken))
+
+trailer-requires : tie.Need-trailer-requires Inv-loop μ-loop
+trailer-requires c κs = search needs
+
+enum-known-before : tie.Need-enum-known-before Inv-loop μ-loop
+enum-known-before c = search needs
+
+add-sheets : tie.Need-add-sheets Inv-loop μ-loop
+add-sheets c =
+    let h = c .before .before .before .before .before .before .loop .inv .within in
+    let t = c .before .before .before .before .before .loop-test .taken in
+    search needs
+
+loop-less : tie.Need-loop-less Inv-loop μ-loop
+loop-less c =
+    omega (arith, walking-less (c .before .before .before .before .before .before .before .before .args .book .now) _ _ (c .before .before .before .before .before .before .loop .inv) (c .before .before .before .before .before .loop-test .taken) _ _ _ _ _ (sym (c .before .before2 .given .1) ∙ c .before .before .before .trailer .ensures))
+
+loop-again : tie.Need-loop-again Inv-loop μ-loop
+loop-again c =
+    walking-on (c .before .before .before .before .before .before .before .before .args .book .now) _ _ (c .before .before .before .before .before .before .loop .inv) (c .before .before .before .before .before .loop-test .taken) _ _ _ _ _ (sym (c .before .before2 .given .1) ∙ c .before .before .before .trailer .ensures)
+
+enum-known-number : tie.Need-enum-known-number Inv-loop μ-loop
+enum-known-number c = search needs
+
+returns : tie.Need-returns Inv-loop μ-loop
+returns c =
+    walking-refused (c .before .before .before .before .before .before .before .before .args .book .now) _ _ (c .before .before .before .before .before .before .loop .inv) (c .before .before .before .before .before .loop-test .taken) _ _ (sym (c .before .number .given .1) ∙ c .before .before .before .trailer .ensures)
+
+returns-2 : tie.Need-returns-2 Inv-loop μ-loop
+returns-2 c = walking-last (c .before .before .before .args .book .now) _ _ (c .before .loop .inv) (omega arith)
+
+pub walk-spec : {M : Type 1} → statement M
+walk-spec =
+    tie.close
+    (tie.spec
+    Inv-loop
+    μ-loop
+    loop-holds
+    slice-aggregate-trailer
+    trailer-requires
+    enum-known-before
+    add-sheets
+    loop-less
+    loop-again
+    enum-known-number
+    returns
+    returns-2)

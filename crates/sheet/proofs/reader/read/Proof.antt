@@ -1,0 +1,25 @@
+-- `sheet::reader::read` meets its contract. The enum taken apart is the entry.
+-- Assumes nothing.
+use mathlib.Core.Path.{sym, ap, _∙_}
+use Rattle.sheet.specs.Reader.{entryAs}
+use borrow.Author.Needs.{needs}
+use Rattle.sheet.proofs.reader.read.Statement.{statement}
+use Rattle.sheet.proofs.reader.read.Tie as tie
+
+trailer-requires : tie.Need-trailer-requires
+trailer-requires c κs = search needs
+
+enum-known-n : tie.Need-enum-known-n
+enum-known-n c = search needs
+
+enum-known-number : tie.Need-enum-known-number
+enum-known-number c = search needs
+
+returns : tie.Need-returns
+returns c = ap entryAs (sym (c .before .n .given .1) ∙ c .before .before .before .trailer .ensures)
+
+returns-2 : tie.Need-returns-2
+returns-2 c = ap entryAs (sym (c .before .number .given .1) ∙ c .before .before .before .trailer .ensures)
+
+pub read-spec : {M : Type 1} → statement M
+read-spec = tie.close (tie.spec trailer-requires enum-known-n enum-known-number returns returns-2)

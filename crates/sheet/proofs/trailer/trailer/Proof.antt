@@ -1,0 +1,75 @@
+-- `sheet::trailer::trailer` meets its contract. Each answer is the first rule that holds, by `Replies`.
+-- Assumes nothing.
+use mathlib.Core.Path.{sym, ap, _∙_}
+use Rattle.sheet.specs.Trailer.{two, wrongMarks}
+use Rattle.sheet.proofs.Replies.{rest-is, says-few, says-wrong, says-none, says-many, says-reach, pointed}
+use borrow.Author.Needs.{needs}
+use Rattle.sheet.proofs.trailer.trailer.Statement.{statement}
+use Rattle.sheet.proofs.trailer.trailer.Tie as tie
+
+returns : tie.Need-returns
+returns c = says-few (c .before .before .args .bytes .now) (c .if1 .taken)
+
+sub-t : tie.Need-sub-t
+sub-t c = search needs
+
+part-t-start : tie.Need-part-t-start
+part-t-start c = search needs
+
+part-t-end : tie.Need-part-t-end
+part-t-end c = search needs
+
+wrong-requires : tie.Need-wrong-requires
+wrong-requires c κs = search needs
+
+returns-2 : tie.Need-returns-2
+returns-2 c =
+    let b = c .before .before .before .before .before .args .bytes .now in
+    says-wrong b (c .before .before .before .if1 .left) (ap wrongMarks (sym (rest-is b)) ∙ sym (c .before .wrong .ensures) ∙ c .if2 .taken)
+
+pair-requires : tie.Need-pair-requires
+pair-requires c κs = search needs
+
+returns-3 : tie.Need-returns-3
+returns-3 c =
+    let b = c .before .before .before .before .before .before .before .args .bytes .now in
+    says-none b (c .before .before .before .before .before .if1 .left) (ap wrongMarks (sym (rest-is b)) ∙ sym (c .before .before .before .wrong .ensures) ∙ c .before .before .if2 .left) (c .before .pair .result)
+    (c .before .pair .ensures ∙ ap (λ t. two t 0) (rest-is b)) (c .if3 .taken)
+
+returns-4 : tie.Need-returns-4
+returns-4 c =
+    let b = c .before .before .before .before .before .before .before .before .args .bytes .now in
+    says-many b (c .before .before .before .before .before .before .if1 .left) (ap wrongMarks (sym (rest-is b)) ∙ sym (c .before .before .before .before .wrong .ensures) ∙ c .before .before .before .if2 .left) (c .before .before .pair .result)
+    (c .before .before .pair .ensures ∙ ap (λ t. two t 0) (rest-is b)) (c .before .if3 .left) (c .if4 .taken)
+
+returns-5 : tie.Need-returns-5
+returns-5 c =
+    let b = c .before .before .before .before .before .before .before .before .before .args .bytes .now in
+    says-reach b (c .before .before .before .before .before .before .before .if1 .left) (ap wrongMarks (sym (rest-is b)) ∙ sym (c .before .before .before .before .before .wrong .ensures) ∙ c .before .before .before .before .if2 .left) (c .before .before .before .pair .result)
+    (c .before .before .before .pair .ensures ∙ ap (λ t. two t 0) (rest-is b)) (c .before .before .if3 .left) (c .before .if4 .left) (c .if5 .taken)
+
+lettered-requires : tie.Need-lettered-requires
+lettered-requires c κs =
+    let b = c .before .before .before .before .before .before .before .before .before .args .bytes .now in
+    pointed b (c .before .before .before .before .before .before .before .if1 .left) (ap wrongMarks (sym (rest-is b)) ∙ sym (c .before .before .before .before .before .wrong .ensures) ∙ c .before .before .before .before .if2 .left) (c .before .before .before .pair .result)
+    (c .before .before .before .pair .ensures ∙ ap (λ t. two t 0) (rest-is b)) (c .before .before .if3 .left) (c .before .if4 .left) (c .if5 .left)
+
+returns-6 : tie.Need-returns-6
+returns-6 c = search needs
+
+pub trailer-spec : {M : Type 1} → statement M
+trailer-spec =
+    tie.close
+    (tie.spec
+    returns
+    sub-t
+    part-t-start
+    part-t-end
+    wrong-requires
+    returns-2
+    pair-requires
+    returns-3
+    returns-4
+    returns-5
+    lettered-requires
+    returns-6)

@@ -1,0 +1,4 @@
+pub mod Sheet
+pub mod Trailer
+pub mod Reader
+pub mod Book

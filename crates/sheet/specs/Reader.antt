@@ -1,0 +1,51 @@
+-- The answers of the calls that read a sheet (01, "The catalogue sheet"), for refused bytes too.
+-- Assumes nothing.
+use mathlib.Core.Bool.{cond}
+use mathlib.Core.List.{List, [], _∷_, _++_}
+use Prim.Native.Nat.{ℕ}
+use lib.Dec.{ltb}
+use lib.ListN.{length, take, drop}
+use Rattle.ring.specs.declared.answer.Filled.{Filled}
+use Rattle.ring.specs.Rule.{rule, judged}
+use Rattle.ring.specs.Judging.{over}
+use Rattle.ring.specs.Answers.{fewer, deposit}
+use Rattle.sheet.specs.declared.answer.Found.{Found}
+use Rattle.sheet.specs.declared.answer.Found.the-variants.{Sheet, Refused}
+use Rattle.sheet.specs.declared.answer.Entry.{Entry}
+use Rattle.sheet.specs.Sheet.{depositOf}
+use Rattle.sheet.specs.Trailer.{wayBack, marksIn, sheetRules, sheetIn, foundOf, numberOf, placeOf}
+
+-- "start, strand, kind and how many bytes stand before"; "other fields are 0" (01)
+abbrev pub entryAs : Found → Entry
+entryAs (Sheet n start strand kind before) =
+    record { marked = record { number = 0; place = 0; n = n; start = start; strand = strand }; kind = kind; before = before }
+entryAs (Refused number place) = record { marked = record { number = number; place = place; n = 0; start = 0; strand = 0 }; kind = 0; before = 0 }
+
+abbrev pub entryOf : List ℕ → Entry
+entryOf b = entryAs (foundOf b)
+
+-- "the key as a part of the lent bytes"; "A declined call hands back an empty part at the front of the lent bytes" (01)
+abbrev pub partAs : List ℕ → Found → List ℕ
+partAs b (Sheet n start strand kind before) = take n (drop before b)
+partAs b (Refused number place) = []
+
+abbrev pub partOf : List ℕ → List ℕ
+partOf b = partAs b (foundOf b)
+
+-- "A second call writes the deposit's original letters to a lent room": the sheet's order, "then 4 for a room lent for the original" (01)
+unfoldable pub restoredOf : List ℕ → ℕ → Found
+restoredOf b size = judged (sheetRules b ++ rule (ltb size (wayBack b)) (Refused 4 0) ∷ []) (sheetIn b)
+
+abbrev pub originalOf : List ℕ → ℕ → Filled
+originalOf b size = record { number = numberOf (restoredOf b size); place = placeOf (restoredOf b size) }
+
+-- a room with the deposit of letters and marks written, as it was where it is too short
+abbrev pub restoredIn : List ℕ → ℕ → ℕ → List ℕ → List ℕ
+restoredIn letters start strand room = cond (fewer (length room) letters) room (over (deposit letters start strand) room)
+
+abbrev pub roomAs : Found → List ℕ → List ℕ → List ℕ
+roomAs (Sheet n start strand kind before) new old = over new old
+roomAs (Refused number place) new old = old
+
+abbrev pub originalRoom : List ℕ → List ℕ → List ℕ
+originalRoom b room = roomAs (restoredOf b (length room)) (depositOf (marksIn b)) room

@@ -1,0 +1,67 @@
+-- The catalogue sheet (01): its letters and marks, its bytes, what the writer makes for a deposit, and the writer's answer.
+-- Assumes nothing.
+use mathlib.Core.Path.{_≡_}
+use mathlib.Core.Bool.{Bool}
+use mathlib.Core.List.{List, [], _∷_, _++_}
+use Prim.Native.Nat.{ℕ, _+_, _/_, _%_}
+use lib.Dec.{ltb}
+use lib.ListN.{length}
+use Rattle.words.specs.Strand.{strand, keyStart, key}
+use Rattle.ring.specs.declared.judge.Verdict.{Verdict}
+use Rattle.ring.specs.declared.answer.Marked.{Marked}
+use Rattle.ring.specs.Judging.{Permitted, verdict, after}
+use Rattle.ring.specs.Answers.{markedAs, deposit, isKey}
+
+-- the letters and marks of a sheet (01, "the sheet's letters and marks")
+pub record Marks : Type 0 where
+  pub letters : List ℕ
+  pub start : ℕ
+  pub strand : ℕ
+  pub kind : ℕ
+
+-- a number of two bytes, "low byte first" (01)
+abbrev pub low : ℕ → ℕ
+low x = x % 256
+
+abbrev pub high : ℕ → ℕ
+high x = x / 256
+
+-- the trailer of 8 bytes: n, key's start, strand, kind, 52 47 hexadecimal (01, the table of the sheet)
+abbrev pub trailerOf : ℕ → ℕ → ℕ → ℕ → List ℕ
+trailerOf n start strand kind = low n ∷ high n ∷ low start ∷ high start ∷ strand ∷ kind ∷ 0x52 ∷ 0x47 ∷ []
+
+-- "The key's n letters, then a trailer of 8 bytes that points back" (01)
+abbrev pub bytesOf : Marks → List ℕ
+bytesOf m = m .letters ++ trailerOf (length (m .letters)) (m .start) (m .strand) (m .kind)
+
+-- what the writer makes for a deposit: the marks of its key, and their bytes
+abbrev pub marksOf : ℕ → List ℕ → Marks
+marksOf kind w = record { letters = key kind w; start = keyStart kind w; strand = strand kind w; kind = kind }
+
+unfoldable pub sheetOf : ℕ → List ℕ → List ℕ
+sheetOf kind w = bytesOf (marksOf kind w)
+
+-- the writer makes the bytes s for some deposit
+pub record Written (s : List ℕ) : Type 0 where
+  pub kind : ℕ
+  pub deposit : List ℕ
+  pub permitted : Permitted kind deposit
+  pub is : sheetOf kind deposit ≡ s
+
+-- the deposit of letters and marks, and whether they are what the writer makes for it
+abbrev pub depositOf : Marks → List ℕ
+depositOf m = deposit (m .letters) (m .start) (m .strand)
+
+abbrev pub isMade : Marks → Bool
+isMade m = isKey (m .kind) (m .letters) (m .start) (m .strand)
+
+-- ---- the writer's answer: "Order for rings: 6, 1, 2, 3, 4", and 4 for "fewer than n+8" (01)
+
+abbrev pub writeVerdict : ℕ → List ℕ → ℕ → Verdict
+writeVerdict kind w size = verdict kind w (ltb size (length w + 8))
+
+abbrev pub writtenOf : ℕ → List ℕ → ℕ → Marked
+writtenOf kind w size = markedAs (writeVerdict kind w size) kind w
+
+abbrev pub writtenRoom : ℕ → List ℕ → List ℕ → List ℕ
+writtenRoom kind w room = after (writeVerdict kind w (length room)) (sheetOf kind w) room

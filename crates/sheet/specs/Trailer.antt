@@ -1,0 +1,99 @@
+-- What stands at the end of lent bytes: a sheet, or the number of its refusal (01, "The catalogue sheet", "Order for a sheet").
+-- Assumes nothing.
+use mathlib.Core.Path.{_≡_}
+use mathlib.Core.Bool.{Bool, false, not, _||_, _&&_}
+use mathlib.Core.List.{List, [], _∷_, _++_}
+use Prim.Native.Nat.{ℕ, _+_, _-_, _*_, _≤_, _<_}
+use lib.Dec.{ltb, eqb}
+use lib.ListN.{length, take, drop, getD}
+use Rattle.words.specs.Kind.{known, stranded}
+use Rattle.ring.specs.Rule.{Rule, rule, judged}
+use Rattle.ring.specs.Judging.{most, firstBad}
+use Rattle.sheet.specs.declared.answer.Found.{Found}
+use Rattle.sheet.specs.declared.answer.Found.the-variants.{Sheet, Refused}
+use Rattle.sheet.specs.Sheet.{Marks, isMade}
+
+-- what lent bytes hold
+abbrev pub Bytes : List ℕ → Type 0
+Bytes b = (i : ℕ) → getD b i 0 < 256
+
+-- the last 8 bytes
+abbrev pub trailer : List ℕ → List ℕ
+trailer b = drop (length b - 8) b
+
+-- a number of two bytes, low byte first
+abbrev pub two : List ℕ → ℕ → ℕ
+two t i = getD t i 0 + 256 * getD t (i + 1) 0
+
+-- "n, the way back from the trailer to the first letter" (01)
+abbrev pub wayBack : List ℕ → ℕ
+wayBack b = two (trailer b) 0
+
+-- how many bytes stand before the sheet's first letter
+abbrev pub before : List ℕ → ℕ
+before b = length b - 8 - wayBack b
+
+-- the letters and marks that the trailer points to
+abbrev pub marksIn : List ℕ → Marks
+marksIn b = record {
+  letters = take (wayBack b) (drop (before b) b);
+  start = two (trailer b) 2;
+  strand = getD (trailer b) 4 0;
+  kind = getD (trailer b) 5 0;
+}
+
+-- "kind is not 0 or 1; in a sheet also a wrong tag, a strand above 1, or kind 0 with strand 1" (01): strand 1 of a kind without strands
+abbrev pub wrongAs : ℕ → ℕ → ℕ → ℕ → Bool
+wrongAs a b kind strand = not (eqb a 0x52) || not (eqb b 0x47) || not (known kind) || ltb 1 strand || eqb strand 1 && not (stranded kind)
+
+unfoldable pub wrongMarks : List ℕ → Bool
+wrongMarks t = wrongAs (getD t 6 0) (getD t 7 0) (getD t 5 0) (getD t 4 0)
+
+-- the first position, from the sheet's first letter, that holds no letter of the sheet's kind
+abbrev pub badIn : List ℕ → ℕ
+badIn b = firstBad (marksIn b .kind) (marksIn b .letters)
+
+-- "Order for a sheet: 5 for fewer than 8 bytes, 6, 1, 2, 5 for the way back, 3" (01)
+abbrev pub formRules : List ℕ → List (Rule Found)
+formRules b =
+    rule (ltb (length b) 8) (Refused 5 0)
+    ∷ rule (wrongMarks (trailer b)) (Refused 6 0)
+    ∷ rule (eqb (wayBack b) 0) (Refused 1 0)
+    ∷ rule (ltb most (wayBack b)) (Refused 2 0)
+    ∷ rule (ltb (length b - 8) (wayBack b)) (Refused 5 0)
+    ∷ rule (ltb (badIn b) (length (marksIn b .letters))) (Refused 3 (badIn b))
+    ∷ []
+
+-- bytes whose trailer, at `at`, passed the rules before 3, and points n letters back
+pub record Pointed (b : List ℕ) (at n : ℕ) : Type 0 where
+  pub long : 8 ≤ length b
+  pub right : wrongMarks (trailer b) ≡ false
+  pub back : n ≡ wayBack b
+  pub some : 0 < n
+  pub within : n ≤ most
+  pub reach : n ≤ at
+  pub here : at ≡ length b - 8
+
+-- 7: "the sheet's letters and marks are not what the writer makes for any deposit" (01)
+abbrev pub notMade : List ℕ → Rule Found
+notMade b = rule (not (isMade (marksIn b))) (Refused 7 0)
+
+abbrev pub sheetRules : List ℕ → List (Rule Found)
+sheetRules b = formRules b ++ notMade b ∷ []
+
+-- "start, strand, kind and how many bytes stand before" (01)
+abbrev pub sheetIn : List ℕ → Found
+sheetIn b = Sheet (wayBack b) (marksIn b .start) (marksIn b .strand) (marksIn b .kind) (before b)
+
+unfoldable pub foundOf : List ℕ → Found
+foundOf b = judged (sheetRules b) (sheetIn b)
+
+-- ---- 01's number and values for each case
+
+abbrev pub numberOf : Found → ℕ
+numberOf (Sheet n start strand kind before) = 0
+numberOf (Refused number place) = number
+
+abbrev pub placeOf : Found → ℕ
+placeOf (Sheet n start strand kind before) = 0
+placeOf (Refused number place) = place

@@ -3,6 +3,8 @@ pub mod Laid
 pub mod Spacing
 pub mod Routing
 pub mod Exactly
+pub mod Numbers
+pub mod Determined
 pub mod Taken
 pub mod Permits
 pub mod Equal
@@ -14,8 +16,6 @@ pub mod KeyPart
 pub mod KeyFit
 pub mod KeyTests
 pub mod Compared
-pub mod Numbers
-pub mod Determined
 pub mod Rules
 pub mod Verdicts
 pub mod Deposit

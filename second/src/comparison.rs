@@ -29,7 +29,15 @@ impl Comparison {
     }
 
     /// Runs one call with values lent to it: enough, more than enough, and now and then one too few.
-    fn call(&mut self, name: &str, kind: u8, ring: &[u8], number: u8, fields: &[u64], run: impl FnOnce(&mut Lent<u64>) -> u8) {
+    pub(crate) fn call(
+        &mut self,
+        name: &str,
+        kind: u8,
+        ring: &[u8],
+        number: u8,
+        fields: &[u64],
+        run: impl FnOnce(&mut Lent<u64>) -> u8,
+    ) {
         self.calls += 1;
         let few = self.calls % 29 == 0;
         let size = if few { fields.len() - 1 } else { fields.len() + (self.calls % 3) as usize };
@@ -45,12 +53,12 @@ impl Comparison {
     }
 
     /// A ring lent for reading, with letters round it that a call must not look at.
-    fn lend(&mut self, ring: &[u8]) -> Lent<u8> {
+    pub(crate) fn lend(&mut self, ring: &[u8]) -> Lent<u8> {
         let around = [b'A', b'T', 0, 255, b'C'][self.numbers.below(5)];
         Lent::holding(ring, around)
     }
 
-    fn bytes(&mut self, size: usize) -> Lent<u8> {
+    pub(crate) fn bytes(&mut self, size: usize) -> Lent<u8> {
         let salt = self.numbers.next();
         Lent::room(size, |i| (salt >> (i % 40)) as u8)
     }
@@ -61,7 +69,14 @@ impl Comparison {
     }
 
     /// Nothing that was lent is written to.
-    fn unchanged<T: Copy + PartialEq + std::fmt::Debug>(&self, name: &str, kind: u8, ring: &[u8], lent: &Lent<T>, written: &[T]) {
+    pub(crate) fn unchanged<T: Copy + PartialEq + std::fmt::Debug>(
+        &self,
+        name: &str,
+        kind: u8,
+        ring: &[u8],
+        lent: &Lent<T>,
+        written: &[T],
+    ) {
         if let Err(what) = lent.holds(written) {
             differ(name, kind, ring, format!("of the lent entries {what}"));
         }
@@ -170,7 +185,7 @@ impl Comparison {
     }
 }
 
-fn numbers(verdict: Result<(), Refusal>) -> (u8, u64) {
+pub(crate) fn numbers(verdict: Result<(), Refusal>) -> (u8, u64) {
     match verdict {
         Ok(()) => (0, 0),
         Err(r) => (r.number, r.place as u64),
@@ -178,6 +193,6 @@ fn numbers(verdict: Result<(), Refusal>) -> (u8, u64) {
 }
 
 /// The fields of the key's marks; a refused call has the place alone.
-fn marks(ring: &[u8], place: u64, key: Option<&Key>) -> [u64; 4] {
+pub(crate) fn marks(ring: &[u8], place: u64, key: Option<&Key>) -> [u64; 4] {
     key.map_or([place, 0, 0, 0], |k| [0, ring.len() as u64, k.start as u64, k.strand as u64])
 }

@@ -11,5 +11,6 @@ pub mod long;
 pub mod plain;
 pub mod probe;
 pub mod rules;
+pub mod sheet_comparison;
 pub mod sheets;
 pub mod words;

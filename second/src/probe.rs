@@ -45,6 +45,11 @@ mod c {
         pub fn probe_is_key(kind: u8, letters: *const u8, n: usize, start: usize, strand: u8) -> u8;
         pub fn probe_compare(kind: u8, first: *const u8, f: usize, second: *const u8, s: usize, values: *mut u64, v: usize)
             -> u8;
+        pub fn probe_sheet_write(kind: u8, ring: *const u8, n: usize, room: *mut u8, r: usize, values: *mut u64, v: usize) -> u8;
+        pub fn probe_sheet_read(bytes: *const u8, n: usize, values: *mut u64, v: usize) -> u8;
+        pub fn probe_sheet_letters(bytes: *const u8, n: usize, values: *mut u64, v: usize) -> u8;
+        pub fn probe_sheet_original(bytes: *const u8, n: usize, room: *mut u8, r: usize, values: *mut u64, v: usize) -> u8;
+        pub fn probe_sheet_walk(book: *const u8, n: usize, values: *mut u64, v: usize) -> u8;
     }
 }
 
@@ -109,4 +114,26 @@ pub fn is_key(kind: u8, letters: &Bytes, start: usize, strand: u8) -> u8 {
 pub fn compare(kind: u8, first: &Bytes, second: &Bytes, values: &mut Values) -> u8 {
     let (f, s, v) = (first.size(), second.size(), values.size());
     unsafe { c::probe_compare(kind, first.front(), f, second.front(), s, values.front_mut(), v) }
+}
+
+pub fn sheet_write(kind: u8, ring: &Bytes, room: &mut Bytes, values: &mut Values) -> u8 {
+    let (n, r, v) = (ring.size(), room.size(), values.size());
+    unsafe { c::probe_sheet_write(kind, ring.front(), n, room.front_mut(), r, values.front_mut(), v) }
+}
+
+pub fn sheet_read(bytes: &Bytes, values: &mut Values) -> u8 {
+    unsafe { c::probe_sheet_read(bytes.front(), bytes.size(), values.front_mut(), values.size()) }
+}
+
+pub fn sheet_letters(bytes: &Bytes, values: &mut Values) -> u8 {
+    unsafe { c::probe_sheet_letters(bytes.front(), bytes.size(), values.front_mut(), values.size()) }
+}
+
+pub fn sheet_original(bytes: &Bytes, room: &mut Bytes, values: &mut Values) -> u8 {
+    let (n, r, v) = (bytes.size(), room.size(), values.size());
+    unsafe { c::probe_sheet_original(bytes.front(), n, room.front_mut(), r, values.front_mut(), v) }
+}
+
+pub fn sheet_walk(book: &Bytes, values: &mut Values) -> u8 {
+    unsafe { c::probe_sheet_walk(book.front(), book.size(), values.front_mut(), values.size()) }
 }

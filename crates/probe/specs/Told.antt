@@ -13,6 +13,8 @@ use Rattle.ring.specs.declared.answer.Fought.{Fought}
 use Rattle.ring.specs.declared.answer.Repeated.{Repeated}
 use Rattle.ring.specs.declared.answer.Marked.{Marked}
 use Rattle.ring.specs.declared.answer.Compared.{Compared}
+use Rattle.sheet.specs.declared.answer.Entry.{Entry}
+use Rattle.sheet.specs.declared.answer.Walked.{Walked}
 
 -- written to the front; too few values stay as they are
 unfoldable pub told : List ℕ → List ℕ → List ℕ
@@ -43,3 +45,13 @@ keyFields a part = a .strand ∷ length part ∷ []
 -- a yes is told as 1, a no as 0
 abbrev pub comparedFields : Compared → List ℕ
 comparedFields a = a .place ∷ a .ring ∷ cond (a .same) 1 0 ∷ []
+
+abbrev pub entryFields : Entry → List ℕ
+entryFields a = a .marked .place ∷ a .marked .n ∷ a .marked .start ∷ a .marked .strand ∷ a .kind ∷ a .before ∷ []
+
+-- the part of a sheet: how many bytes stand before it, and its length
+abbrev pub partFields : Entry → List ℕ → List ℕ
+partFields a part = a .before ∷ length part ∷ []
+
+abbrev pub walkedFields : Walked → List ℕ
+walkedFields a = a .place ∷ a .sheets ∷ []

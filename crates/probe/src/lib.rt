@@ -2,4 +2,5 @@
 // other fields to `values`, in their order; `values` with fewer entries than that is left alone.
 mod keys;
 mod rings;
+mod sheets;
 mod tell;

@@ -1,7 +1,7 @@
 //! Compares the library with the second program on many rings. One line with the number of calls, or the first difference.
 use second::cases::{self, Numbers};
 use second::comparison::Comparison;
-use second::{facts, keys, rules, words};
+use second::{facts, keys, rules, sheets, words};
 use std::collections::HashSet;
 use std::time::Instant;
 
@@ -101,6 +101,9 @@ fn refusals(c: &mut Comparison) {
             let key = taken.then(|| keys::key(kind, ring));
             c.check(kind, ring);
             c.alone(kind, ring, facts.as_ref(), key.as_ref());
+            for size in [0, n, n + 7, n + 8, n + 9] {
+                c.sheet_write(kind, ring, size, key.as_ref());
+            }
             for size in [0, n.saturating_sub(1), n, n + 1] {
                 c.tables(kind, ring, size, facts.as_ref());
                 for second in [0, n.saturating_sub(1), n, n + 1] {
@@ -125,6 +128,72 @@ fn refusals(c: &mut Comparison) {
             c.check(1, &ring);
             c.compare(1, b"GAT", &ring);
             c.compare(1, &ring, b"GAN");
+        }
+    }
+}
+
+/// A deposit's sheet: written, read back, walked, and turned back to the deposit.
+fn sheet(c: &mut Comparison, kind: u8, ring: &[u8], numbers: &mut Numbers) -> Vec<u8> {
+    let n = ring.len();
+    let key = keys::key(kind, ring);
+    for size in [n, n + 7, n + 8, n + 9 + numbers.below(4)] {
+        c.sheet_write(kind, ring, size, Some(&key));
+    }
+    let bytes = sheets::bytes(kind, &key);
+    let sheet = sheets::read(&bytes).expect("a sheet that the writer made");
+    assert_eq!(sheets::original(&sheet), ring);
+    let more = numbers.below(12);
+    let garbage = [&numbers.word(b"ACGT\x00\x08RG", more)[..], &bytes].concat();
+    for bytes in [&bytes, &garbage] {
+        c.sheet_read(bytes, &[0, n.saturating_sub(1), n, n + 3]);
+        c.sheet_walk(bytes);
+    }
+    bytes
+}
+
+/// Bytes with each byte changed in turn, cut at each place from the front and from the end, and with bytes before.
+fn damaged(c: &mut Comparison, bytes: &[u8], values: &[u8]) {
+    let each = |c: &mut Comparison, bytes: &[u8]| {
+        c.sheet_read(bytes, &[bytes.len()]);
+        c.sheet_walk(bytes);
+    };
+    for at in 0..bytes.len() {
+        let mut changed = bytes.to_vec();
+        for &value in values {
+            changed[at] = value;
+            each(c, &changed);
+        }
+        for bit in 0..8 {
+            changed[at] = bytes[at] ^ 1 << bit;
+            each(c, &changed);
+        }
+        each(c, &bytes[..at]);
+        each(c, &bytes[at..]);
+        let twice = [&bytes[at..], bytes].concat();
+        each(c, &twice);
+    }
+}
+
+/// Trailers that meet several refusals at once, behind letters of every sort.
+fn trailers(c: &mut Comparison) {
+    let fronts: [&[u8]; 8] = [b"", b"A", b"AC", b"ACAC", b"AANA", b"ACGT", b"AATCTGT", b"TTTT"];
+    for front in fronts {
+        for way_back in [0, 1, 2, 3, 4, 5, 7, 8, 8192, 8193, 65535u16] {
+            for start in [0, 1, 2, 3, 4, 7, 256, 65535u16] {
+                for strand in [0, 1, 2] {
+                    for kind in [0, 1, 2] {
+                        for tag in [[0x52, 0x47], [0x47, 0x52], [0x52, 0]] {
+                            let mut bytes = front.to_vec();
+                            bytes.extend(way_back.to_le_bytes());
+                            bytes.extend(start.to_le_bytes());
+                            bytes.extend([strand, kind]);
+                            bytes.extend(tag);
+                            c.sheet_read(&bytes, &[0, 7]);
+                            c.sheet_walk(&bytes);
+                        }
+                    }
+                }
+            }
         }
     }
 }
@@ -165,18 +234,48 @@ fn main() {
         cases::every(b"ACGT", 4, |first| cases::every(b"ACGT", 4, |second| c.compare(kind, first, second)));
     }
     done("sizes of tables and rooms, letters judged as keys, pairs of rings", &c);
+    for kind in [0, 1] {
+        cases::every(b"AC", 12, |w| drop(sheet(&mut c, kind, w, &mut numbers)));
+        cases::every(b"ACGT", 6, |w| drop(sheet(&mut c, kind, w, &mut numbers)));
+    }
+    trailers(&mut c);
+    done("sheets of short rings, trailers of every sort", &c);
+    let all: Vec<u8> = (0..=255).collect();
+    let some = [0, 1, 2, 7, 8, b'A', b'C', b'G', b'N', b'R', b'T', 127, 128, 255];
+    c.sheet_walk(b"");
+    c.sheet_read(b"", &[0, 1]);
+    for (kind, deposit) in [(1, &b"A"[..]), (1, b"CACA"), (1, b"GATTACA"), (1, b"TTGA"), (1, b"ATAT"), (0, b"\x00\xff\x00\x80")] {
+        let bytes = sheet(&mut c, kind, deposit, &mut numbers);
+        damaged(&mut c, &bytes, &all);
+    }
+    done("sheets with every byte changed to every value, every truncation", &c);
+    for sheets in 2..=5 {
+        let mut book = Vec::new();
+        for k in 0..sheets {
+            let n = 1 + numbers.below(6);
+            let deposit = numbers.word(b"ACGT", n);
+            book.extend(sheet(&mut c, k as u8 % 2, &deposit, &mut numbers));
+        }
+        c.sheet_walk(&book);
+        damaged(&mut c, &book, &some);
+    }
+    done("books with every byte changed, every truncation", &c);
     for n in (15..=130).chain([255, 256, 257, 511, 512, 513, 1000]) {
         for word in cases::families(&mut numbers, n) {
             for kind in [0, 1] {
                 ring(&mut c, kind, &word, &mut numbers);
+                sheet(&mut c, kind, &word, &mut numbers);
             }
         }
     }
     done("families from 15 to 1,000 letters", &c);
     for n in [4096, 8191, 8192] {
+        let mut book = Vec::new();
         for word in cases::families(&mut numbers, n) {
             ring(&mut c, 1, &word, &mut numbers);
+            book.extend(sheet(&mut c, 1, &word, &mut numbers));
         }
+        c.sheet_walk(&book);
         let bytes: Vec<u8> = (0..n).map(|_| numbers.next() as u8).collect();
         ring(&mut c, 0, &bytes, &mut numbers);
     }

@@ -1,8 +1,9 @@
 //! Compares the library with the second program on many rings. One line with the number of calls, or the first difference.
 use second::cases::{self, Numbers};
 use second::comparison::Comparison;
-use second::{facts, keys, rules, sheets, words};
+use second::{facts, keys, report, rules, sheets, words};
 use std::collections::HashSet;
+use std::path::Path;
 use std::time::Instant;
 
 /// Every call on one ring that is lent enough, and the tables and rooms one entry short and one entry longer.
@@ -198,6 +199,42 @@ fn trailers(c: &mut Comparison) {
     }
 }
 
+/// The program itself on inputs of every sort, given whole and byte by byte: the number of runs.
+fn processes(program: &Path, numbers: &mut Numbers) -> u64 {
+    let mut inputs: Vec<Vec<u8>> = Vec::new();
+    cases::every(b"AC", 4, |ring| inputs.push(ring.to_vec()));
+    cases::every(b"ACGT\n", 2, |ring| inputs.push(ring.to_vec()));
+    for text in
+        ["", "\n", "\n\n", "\r\n", "GATTACA\n", "GATTACA", "GATTACA\r\n", "GATTACA\n\n", "\nGATTACA", "GAN", "GAN\n", "gattaca"]
+    {
+        inputs.push(text.as_bytes().to_vec());
+    }
+    for n in [20, 100, 257, 1000] {
+        inputs.extend(cases::families(numbers, n));
+    }
+    for n in 8189..=8196 {
+        for end in ["", "\n", "\n\n", "N", "\nA"] {
+            inputs.push([&cases::over(b"GATTACA", n), end.as_bytes()].concat());
+        }
+    }
+    inputs.push(vec![b'A'; 100_000]);
+    let mut runs = 0;
+    for input in &inputs {
+        let want = report::report(input);
+        for piece in [input.len().max(1), 1, 7] {
+            let (printed, ended) = report::run(program, input, piece);
+            if printed != want || !ended {
+                let (printed, want) = (String::from_utf8_lossy(&printed), String::from_utf8_lossy(&want));
+                let shown = String::from_utf8_lossy(&input[..input.len().min(64)]);
+                eprintln!("DIFFERENCE in ringline, {} bytes {shown:?} in pieces of {piece}:\n{printed}not\n{want}", input.len());
+                std::process::exit(1);
+            }
+            runs += 1;
+        }
+    }
+    runs
+}
+
 /// The second program's two ways agree where both can run.
 fn agree(alphabet: &[u8], longest: usize) {
     cases::every(alphabet, longest, |ring| {
@@ -219,12 +256,12 @@ fn main() {
     refusals(&mut c);
     done("refusals and their collisions", &c);
     for kind in [0, 1] {
-        cases::every(b"AC", 14, |w| ring(&mut c, kind, w, &mut numbers));
+        cases::every(b"AC", 15, |w| ring(&mut c, kind, w, &mut numbers));
         cases::every(b"AT", 11, |w| ring(&mut c, kind, w, &mut numbers));
-        cases::every(b"ACGT", 7, |w| ring(&mut c, kind, w, &mut numbers));
+        cases::every(b"ACGT", 8, |w| ring(&mut c, kind, w, &mut numbers));
     }
     cases::every(&[0, 10, 65, 127, 128, 255], 5, |w| ring(&mut c, 0, w, &mut numbers));
-    done("every ring over AC to 14, AT to 11, ACGT to 7, six bytes to 5", &c);
+    done("every ring over AC to 15, AT to 11, ACGT to 8, six bytes to 5", &c);
     for kind in [0, 1] {
         cases::every(b"ACGT", 4, |w| sizes(&mut c, kind, w));
     }
@@ -269,7 +306,16 @@ fn main() {
         }
     }
     done("families from 15 to 1,000 letters", &c);
-    for n in [4096, 8191, 8192] {
+    for _ in 0..4000 {
+        let n = 1 + numbers.below(300);
+        let alphabet: &[u8] = [&b"ACGT"[..], b"AC", b"AT", b"CG", b"AAAC"][numbers.below(5)];
+        let word = numbers.word(alphabet, n);
+        let kind = numbers.below(2) as u8;
+        ring(&mut c, kind, &word, &mut numbers);
+        sheet(&mut c, kind, &word, &mut numbers);
+    }
+    done("random rings to 300 letters", &c);
+    for n in [2048, 4096, 8191, 8192] {
         let mut book = Vec::new();
         for word in cases::families(&mut numbers, n) {
             ring(&mut c, 1, &word, &mut numbers);
@@ -280,5 +326,9 @@ fn main() {
         ring(&mut c, 0, &bytes, &mut numbers);
     }
     done("families to 8,192 letters", &c);
+    match report::program() {
+        Some(program) => println!("{} runs of ringline agree with the second program", processes(&program, &mut numbers)),
+        None => println!("ringline is not built: none of its runs are compared"),
+    }
     println!("{} calls of the library agree with the second program", c.calls);
 }

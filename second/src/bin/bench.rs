@@ -1,7 +1,7 @@
 //! Times each call of the library beside plain Rust on the same rings, in one run.
 use second::cases::{self, Numbers};
 use second::lent::Lent;
-use second::{long, plain, probe};
+use second::{duels, keys, long, plain, probe, sheets};
 use std::hint::black_box;
 use std::time::Instant;
 
@@ -13,7 +13,7 @@ fn time(n: usize, mut run: impl FnMut()) -> f64 {
     let once = begun.elapsed().as_nanos().max(1) as f64;
     let times = (1.5e6 / once).ceil().max(1.0) as usize;
     let mut best = f64::MAX;
-    for _ in 0..9 {
+    for _ in 0..25 {
         let begun = Instant::now();
         for _ in 0..times {
             run();
@@ -38,7 +38,7 @@ fn families(n: usize) -> Vec<(&'static str, Vec<u8>)> {
         ("A^(n-1)C", cases::all_but_last(n)),
         ("(CA)^k", cases::over(b"CA", n)),
         ("Fibonacci", cases::fibonacci(b'A', b'C', n)),
-        ("far back", cases::far_back(n)),
+        ("b^K a b^K (a b^j c)^J", cases::far_back(n)),
     ]
 }
 
@@ -92,50 +92,66 @@ fn rows(family: &'static str, letters: &[u8]) -> Vec<Row> {
 
     let mark = time(n, || assert!(probe::mark(1, &ring, &mut values) == 0));
     let both = time(n, || assert!(plain::judged(w()) && black_box(plain::key_by_booth(w(), &mut failure)).0 < n));
-    row("mark", mark, vec![("one strand: factors of the library", factors), ("Booth on both strands", both)]);
+    row("mark", mark, vec![("factors of the library, one strand", factors), ("Booth on both strands", both)]);
 
     let own = time(n, || assert!(probe::write_key(1, &ring, &mut first, &mut second, &mut values) == 0));
     row("write_key", own, vec![("mark of the library", mark)]);
 
     let own = time(n, || assert!(probe::compare(1, &ring, &turned, &mut values) == 0));
     row("compare", own, vec![("mark of the library", mark)]);
+
+    let mut room = Lent::room(n + 8, |_| 0u8);
+    let own = time(n, || assert!(probe::sheet_write(1, &ring, &mut room, &mut values) == 0));
+    row("sheet::write", own, vec![("mark of the library", mark)]);
+    let sheet = Lent::holding(&sheets::bytes(1, &keys::key(1, letters)), b'A');
+    let read = time(n, || assert!(probe::sheet_read(&sheet, &mut values) == 0));
+    row("sheet::read", read, vec![("mark of the library", mark)]);
+    let own = time(n, || assert!(probe::sheet_original(&sheet, &mut first, &mut values) == 0));
+    row("sheet::original", own, vec![("sheet::read", read)]);
     rows
 }
 
 fn main() {
-    println!("Nanoseconds a letter, kind 1, best of 9 batches; tables, rooms and failure tables are made once and not cleared");
-    println!("between calls; plain Rust judges the letters too. A ratio is library / plain.");
+    println!(
+        "Nanoseconds a letter, kind 1, best of 25 batches. Tables, rooms and failure tables are made once and not cleared between"
+    );
+    println!("calls, by either side; plain Rust judges the letters too. A ratio is the library's time by the time beside it; growth is");
+    println!("the library's time a letter at 8,192 letters by that at 1,024.");
     println!();
-    println!("| Call | Ring | n | Library | Beside it | Ratio |");
-    println!("|---|---|---|---|---|---|");
-    let mut all = Vec::new();
-    for n in [1024, 8192] {
-        for (family, letters) in families(n) {
-            all.extend(rows(family, &letters));
-        }
-    }
-    let mut order: Vec<&str> = Vec::new();
-    for row in &all {
-        if !order.contains(&row.call) {
-            order.push(row.call);
-        }
-    }
-    for call in &order {
-        for row in all.iter().filter(|row| row.call == *call) {
-            for (i, (beside, plain)) in row.plain.iter().enumerate() {
-                let (family, n) = if i == 0 { (row.family, row.n.to_string()) } else { ("", String::new()) };
-                let ratio = row.library / plain;
-                println!("| {call} | {family} | {n} | {:.2} | {beside} {plain:.2} | {ratio:.2} |", row.library);
+    let lengths = [1024, 8192];
+    let all: Vec<Row> = lengths.iter().flat_map(|&n| families(n)).flat_map(|(family, letters)| rows(family, &letters)).collect();
+    let at = |call: &str, family: &str, n: usize| all.iter().find(|r| r.call == call && r.family == family && r.n == n).unwrap();
+    println!("| Call | Beside it | Ring | 1,024 | beside | ratio | 8,192 | beside | ratio | growth |");
+    println!("|---|---|---|---|---|---|---|---|---|---|");
+    let mut worst = Vec::new();
+    for first in all.iter().filter(|r| r.n == lengths[0] && r.family == all[0].family) {
+        for (i, (beside, _)) in first.plain.iter().enumerate() {
+            let (mut most, mut growth) = (0.0f64, 0.0f64);
+            for (family, _) in families(2) {
+                let (small, large) = (at(first.call, family, lengths[0]), at(first.call, family, lengths[1]));
+                let ratios = [small, large].map(|r| r.library / r.plain[i].1);
+                let grown = large.library / small.library;
+                most = most.max(ratios[0]).max(ratios[1]);
+                growth = growth.max(grown);
+                println!(
+                    "| {} | {beside} | {family} | {:.2} | {:.2} | {:.2} | {:.2} | {:.2} | {:.2} | {grown:.2} |",
+                    first.call, small.library, small.plain[i].1, ratios[0], large.library, large.plain[i].1, ratios[1],
+                );
             }
+            worst.push((first.call, *beside, most, growth));
         }
     }
     println!();
-    println!("| Call | Ring | 8,192 against 1,024, a letter |");
+    println!("| Call | Beside it | Largest ratio | Largest growth |");
+    println!("|---|---|---|---|");
+    for (call, beside, most, growth) in worst {
+        println!("| {call} | {beside} | {most:.2} | {growth:.2} |");
+    }
+    println!();
+    println!("| Ring | Pairs that the duels read, a letter, at 1,024 | at 8,192 |");
     println!("|---|---|---|");
-    for call in &order {
-        for small in all.iter().filter(|row| row.call == *call && row.n == 1024) {
-            let large = all.iter().find(|row| row.call == *call && row.family == small.family && row.n == 8192).unwrap();
-            println!("| {call} | {} | {:.2} |", small.family, large.library / small.library);
-        }
+    for ((family, small), (_, large)) in families(lengths[0]).iter().zip(families(lengths[1])) {
+        let pairs = |ring: &[u8]| duels::duel(ring).1 as f64 / ring.len() as f64;
+        println!("| {family} | {:.2} | {:.2} |", pairs(small), pairs(&large));
     }
 }

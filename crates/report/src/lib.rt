@@ -1,2 +1,6 @@
 // What `ringline` prints, as bytes in a lent room.
 mod decimal;
+mod lines;
+mod whole;
+
+pub use whole::report;

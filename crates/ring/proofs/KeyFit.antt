@@ -15,7 +15,9 @@ use Rattle.words.specs.Ring.{reading, start, lowest}
 use Rattle.words.specs.Strand.{opposite, onStrand, strand, keyStart, key}
 use Rattle.words.specs.Repeat.{ringRepeat}
 use Rattle.words.proofs.Search.{either, by-test}
-use Rattle.words.proofs.Strand.{opposite-twice, length-opposite, strand-twice}
+use Rattle.words.proofs.Ring.{start-is}
+use Rattle.words.proofs.Turn.{length-reading, reading-back}
+use Rattle.words.proofs.Strand.{opposite-twice, length-opposite, length-strand, strand-twice}
 use Rattle.words.proofs.TurnBack.{start-of-lowest, start-low, lowest-opposite, start-back, lowest-back}
 use Rattle.ring.specs.Judging.{Permitted, verdict, taken}
 use Rattle.ring.specs.Strands.{leftTo}
@@ -141,6 +143,17 @@ module _ (kind : ℕ) (k : List ℕ) (at s : ℕ) where
   -- any ring gives the computed form
   pub isKey-true : IsKey kind k at s → isKey kind k at s ≡ true
   isKey-true i = fit-true (key-fits i)
+
+  -- the deposit is the one ring that has them
+  pub deposit-one : (i : IsKey kind k at s) → i .ring ≡ deposit k at s
+  unfolding deposit key keyStart lowest
+  deposit-one i =
+      let w = i .ring in
+      let u : List ℕ = onStrand (strand kind w) w in
+      let h : 0 < length u = rw (length-strand (strand kind w) w) (i .permitted .some) in
+      let l : start u ≤ length u = omega (arith, start-is u h .within) in
+      let b : reading (reading u (start u)) (length (reading u (start u)) - start u) ≡ u = rw (length-reading u (start u) l) (reading-back u (start u) l h) in
+      sym (rw (← i .letters, ← i .start, ← i .strands) (ap (onStrand (strand kind w)) b ∙ strand-twice (strand kind w) w))
 
   pub not-fit : (Fit kind k at s → ⊥) → false ≡ isKey kind k at s
   not-fit n = by-test (isKey kind k at s) (λ t. absurd (n (key-fits (isKey-is t)))) (λ t. sym t)

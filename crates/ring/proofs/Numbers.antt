@@ -1,6 +1,6 @@
 -- Each number of 01's table is given exactly when 01 says: its condition holds, and none that stands before it in the order 6, 1, 2, 3, 4.
 -- Assumes nothing.
-use mathlib.Core.Path.{_≡_, refl, ap, _∙_}
+use mathlib.Core.Path.{_≡_, refl, ap}
 use mathlib.Core.Bool.{Bool, true, false}
 use mathlib.Core.List.{List}
 use Prim.Native.Nat.{ℕ, _≤_, _<_}
@@ -9,7 +9,6 @@ use borrow.Author.Tests.{leb-true}
 use lib.ListN.{length, getD}
 use Rattle.words.specs.Kind.{isLetter}
 use Rattle.ring.specs.declared.judge.Verdict.{Verdict}
-use Rattle.ring.specs.declared.judge.Verdict.the-variants.{Taken, Kind, Empty, Long, Letter, Short}
 use Rattle.ring.specs.Judging.{most, firstBad, Permitted, numberOf, placeOf, verdict}
 use Rattle.ring.proofs.Judging.{says-kind, says-empty, says-long, says-letter, says-short}
 use Rattle.ring.proofs.Exactly.{Case, unknown, none, many, bad, small, fine, case, all-letters, bad-here, good-before, fits-taken}

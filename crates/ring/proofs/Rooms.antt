@@ -44,9 +44,6 @@ partly-all new old room i p h =
 
 -- ---- two parts, one behind the other
 
-pub length-over : (new old : List ℕ) → length new ≤ length old → length (over new old) ≡ length old
-length-over new old h = rw (length-append, length-drop) (omega arith)
-
 -- the room after the first part, and its back after the second
 pub over-two : (a b old one two : List ℕ) (k : ℕ) → length a ≡ k → one ≡ over a old → two ≡ over b (take (length one - k) (drop k one))
     → putMid k (length one - k) one two ≡ over (a ++ b) old

@@ -18,7 +18,7 @@ use Rattle.ring.specs.declared.answer.Marked.{Marked}
 use Rattle.ring.specs.Judging.{Permitted, verdict, numberOf, over, after}
 use Rattle.ring.specs.Answers.{markedAs, markedOf, wroteRoom}
 use Rattle.ring.proofs.Taken.{permitted-taken}
-use Rattle.ring.proofs.Rooms.{length-over}
+use Rattle.ring.proofs.Laid.{length-over}
 use Rattle.ring.proofs.Verdicts.{number-refused, number-permitted, refused-any, permitted-short}
 use Rattle.ring.proofs.Compared.{length-key}
 use Rattle.ring.proofs.Deposit.{start-below}

@@ -1,0 +1,84 @@
+-- What the calls on a permitted base ring answer: their numbers, and that they are small.
+-- Assumes nothing.
+use mathlib.Core.Path.{_≡_, refl, ap, _∙_}
+use mathlib.Core.Bool.{false}
+use mathlib.Core.List.{List}
+use Prim.Native.Nat.{ℕ, _≤_, _<_, _-_}
+use native.Mathlib.Omega.{arith}
+use borrow.Author.Tests.{le-ltb}
+use lib.Dec.{eqb}
+use lib.ListN.{length, take, getD}
+use lib.Seq.{take-append-seam}
+use Rattle.words.specs.Ring.{start}
+use Rattle.words.specs.Strand.{strand, keyStart}
+use Rattle.words.specs.Factor.{factorTable}
+use Rattle.words.specs.Prefix.{suffixTable, startTable}
+use Rattle.words.specs.Repeat.{repeat}
+use Rattle.words.specs.Duel.{startOf, pairs}
+use Rattle.words.proofs.Search.{by-test}
+use Rattle.words.proofs.Ring.{start-is}
+use Rattle.report.specs.Report.{kept}
+use Rattle.words.proofs.Repeat.{repeat-is}
+use Rattle.words.proofs.Pairs.{duels-end, pairs-three}
+use Rattle.ring.specs.declared.judge.Verdict.the-variants.{Taken}
+use Rattle.ring.specs.declared.answer.Factored.{Factored}
+use Rattle.ring.specs.declared.answer.Fought.{Fought}
+use Rattle.ring.specs.declared.answer.Repeated.{Repeated}
+use Rattle.ring.specs.declared.answer.Marked.{Marked}
+use Rattle.ring.specs.Judging.{Permitted, verdict, over}
+use Rattle.ring.specs.Answers.{fewer, factoredOf, factoredTable, suffixesTable, startsTable, foughtOf, repeatedOf, markedOf}
+use Rattle.words.proofs.Runs.{table-few}
+use Rattle.ring.proofs.Laid.{length-over}
+use Rattle.ring.proofs.Exactly.{fits-taken}
+
+-- what was written to the front of a room
+pub front : (new old : List ℕ) → take (length new) (over new old) ≡ new
+front new old = take-append-seam new _
+
+-- nothing is kept of nothing
+pub kept-none : (b : List ℕ) → length b ≡ 0 → kept b ≡ 0
+kept-none b h = by-test (eqb (getD b (length b - 1) 0) 10) (λ t. rw t (omega arith)) (λ t. rw t h)
+
+module _ (w : List ℕ) (p : Permitted 1 w) where
+  alone : verdict 1 w false ≡ Taken
+  alone = fits-taken 1 w false p refl
+
+  roomed : (size : ℕ) → length w ≤ size → verdict 1 w (fewer size w) ≡ Taken
+  roomed size h = fits-taken 1 w (fewer size w) p (le-ltb size (length w) h)
+
+  pub told-fought : (r : Fought) → r ≡ foughtOf 1 w → (r .start ≡ start w) × (r .pairs ≡ pairs w)
+  told-fought r e = rw (e, alone) (ap startOf (duels-end w (p .some)), refl)
+
+  pub told-repeated : (r : Repeated) → r ≡ repeatedOf 1 w → r .repeat ≡ repeat w
+  told-repeated r e = rw (e, alone)
+
+  pub told-marked : (r : Marked) → r ≡ markedOf 1 w → (r .start ≡ keyStart 1 w) × (r .strand ≡ strand 1 w)
+  told-marked r e = rw (e, alone) (refl, refl)
+
+  pub told-factored : (r : Factored) (size : ℕ) → length w ≤ size → r ≡ factoredOf 1 w size → r .count ≡ length (factorTable w)
+  told-factored r size h e = rw (e, roomed size h)
+
+  module _ (t x : List ℕ) (h : length w ≤ length t) where
+    -- the front of a table that was filled
+    pub told-factors : x ≡ factoredTable 1 w t → take (length (factorTable w)) x ≡ factorTable w
+    told-factors e = ap (take (length (factorTable w))) (e ∙ rw (roomed (length t) h)) ∙ front (factorTable w) t
+
+    pub told-few : x ≡ factoredTable 1 w t → length (factorTable w) ≤ length x
+    told-few e = let q : x ≡ over (factorTable w) t = e ∙ rw (roomed (length t) h) in rw (q, length-over (factorTable w) t (omega (arith, table-few w))) (omega (arith, table-few w))
+
+    pub told-suffixes : x ≡ suffixesTable 1 w t → take (length (suffixTable w)) x ≡ suffixTable w
+    told-suffixes e = ap (take (length (suffixTable w))) (e ∙ rw (roomed (length t) h)) ∙ front (suffixTable w) t
+
+    pub told-starts : x ≡ startsTable 1 w t → take (length (startTable w)) x ≡ startTable w
+    told-starts e = ap (take (length (startTable w))) (e ∙ rw (roomed (length t) h)) ∙ front (startTable w) t
+
+  -- ---- all of it is small
+
+  pub start-small : start w < 8192
+  start-small = omega (arith, start-is w (p .some) .within, p .within)
+
+  pub repeat-small : repeat w ≤ 8192
+  repeat-small = omega (arith, repeat-is w (p .some) .repeats .within, p .within)
+
+  pub pairs-small : pairs w ≤ 24576
+  pairs-small = omega (arith, pairs-three w, p .within)

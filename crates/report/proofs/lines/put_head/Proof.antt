@@ -1,0 +1,61 @@
+-- `report::lines::put_head` meets its contract.
+-- Assumes nothing.
+use native.Mathlib.Omega.{arith}
+use Rattle.words.specs.Repeat.{repeat}
+use Rattle.report.specs.Report.{headLine}
+use Rattle.report.proofs.Told.{told-fought, told-repeated, start-small, repeat-small, pairs-small}
+use borrow.Author.Needs.{needs}
+use Rattle.report.proofs.lines.put_head.Statement.{statement}
+use Rattle.report.proofs.lines.put_head.Tie as tie
+
+duel-requires : tie.Need-duel-requires
+duel-requires c κs = search needs
+
+repeat-requires : tie.Need-repeat-requires
+repeat-requires c κs = search needs
+
+cast-n : tie.Need-cast-n
+cast-n c = search needs
+
+cast-start : tie.Need-cast-start
+cast-start c = omega (arith, told-fought _ (c .before .before .before .before .before .pre .0) _ (c .before .before .duel .ensures) .0, start-small _ (c .before .before .before .before .before .pre .0))
+
+cast-repeat : tie.Need-cast-repeat
+cast-repeat c = omega (arith, told-repeated _ (c .before .before .before .before .before .before .pre .0) _ (c .before .before .repeat .ensures), repeat-small _ (c .before .before .before .before .before .before .pre .0))
+
+cast-pairs : tie.Need-cast-pairs
+cast-pairs c = omega (arith, told-fought _ (c .before .before .before .before .before .before .before .pre .0) _ (c .before .before .before .before .duel .ensures) .1, pairs-small _ (c .before .before .before .before .before .before .before .pre .0))
+
+slice-aggregate-put-row : tie.Need-slice-aggregate-put-row
+slice-aggregate-put-row c = search needs
+
+put-row-requires : tie.Need-put-row-requires
+put-row-requires c κs = search needs
+
+same-length : tie.Need-same-length
+same-length c = search needs
+
+returns : tie.Need-returns
+unfolding headLine
+returns c =
+    let w = c .before .before .before .before .before .before .before .before .before .before .before .before .args .ring .now in
+    let p = c .before .before .before .before .before .before .before .before .before .before .before .before .pre .0 in
+    let f = told-fought w p _ (c .before .before .before .before .before .before .before .before .before .duel .ensures) in
+    let r = told-repeated w p _ (c .before .before .before .before .before .before .before .before .repeat .ensures) in
+    let e = c .before .before .put-row .ensures in
+    ((rw (← f .0, ← f .1, ← r) (e .0 .0), omega (arith, e .0 .1)), rw (← f .0, ← f .1, ← r) (e .1))
+
+pub put-head-spec : {M : Type 1} → statement M
+put-head-spec =
+    tie.close
+    (tie.spec
+    duel-requires
+    repeat-requires
+    cast-n
+    cast-start
+    cast-repeat
+    cast-pairs
+    slice-aggregate-put-row
+    put-row-requires
+    same-length
+    returns)

@@ -1,0 +1,89 @@
+// The five lines that are printed for a ring.
+ghost use mathlib.Core.Path.{_≡_};
+ghost use Prim.Native.Nat.{_≤_};
+ghost use lib.ListN.{length};
+ghost use Rattle.ring.specs.Judging.{Permitted, over};
+ghost use Rattle.report.specs.Report.{headLine, factorLine, suffixLine, startLine, keyLine, fiveLines};
+use super::decimal::put_row;
+
+// Line 1: 0, n, the start, the repeat, the pairs.
+fn put_head(room: &mut [u8], ring: &[u8]) -> usize
+    requires { ⌜ Permitted 1 (now ring) × (30 ≤ length (now room)) ⌝ }
+    ensures { λ r. ⌜ (r ≡ length (headLine (now (ring .entry)))) × (r ≤ 30) ⌝ }
+    ensures { λ _. ⌜ now (room .exit) ≡ over (headLine (now (ring .entry))) (now (room .entry)) ⌝ }
+{
+    let fought = ring::duel(ring, 1);
+    let repeated = ring::repeat(ring, 1);
+    let n = ring.len() as u16;
+    let start = fought.start as u16;
+    let repeat = repeated.repeat as u16;
+    let pairs = fought.pairs as u16;
+    let numbers = [0, n, start, repeat, pairs];
+    put_row(room, &numbers, 10)
+}
+
+// Line 2: the factor table.
+fn put_factors(room: &mut [u8], ring: &[u8]) -> usize
+    requires { ⌜ Permitted 1 (now ring) × (49152 ≤ length (now room)) ⌝ }
+    ensures { λ r. ⌜ (r ≡ length (factorLine (now (ring .entry)))) × (r ≤ 49152) ⌝ }
+    ensures { λ _. ⌜ now (room .exit) ≡ over (factorLine (now (ring .entry))) (now (room .entry)) ⌝ }
+{
+    let mut table = [0u16; 8192];
+    let factored = ring::factors(ring, 1, &mut table);
+    let count = factored.count;
+    put_row(room, &table[..count], 10)
+}
+
+// Line 3: the suffix table.
+fn put_suffixes(room: &mut [u8], ring: &[u8]) -> usize
+    requires { ⌜ Permitted 1 (now ring) × (49152 ≤ length (now room)) ⌝ }
+    ensures { λ r. ⌜ (r ≡ length (suffixLine (now (ring .entry)))) × (r ≤ 49152) ⌝ }
+    ensures { λ _. ⌜ now (room .exit) ≡ over (suffixLine (now (ring .entry))) (now (room .entry)) ⌝ }
+{
+    let n = ring.len();
+    let mut table = [0u16; 8192];
+    ring::suffixes(ring, 1, &mut table);
+    put_row(room, &table[..n], 10)
+}
+
+// Line 4: the start table.
+fn put_starts(room: &mut [u8], ring: &[u8]) -> usize
+    requires { ⌜ Permitted 1 (now ring) × (49152 ≤ length (now room)) ⌝ }
+    ensures { λ r. ⌜ (r ≡ length (startLine (now (ring .entry)))) × (r ≤ 49152) ⌝ }
+    ensures { λ _. ⌜ now (room .exit) ≡ over (startLine (now (ring .entry))) (now (room .entry)) ⌝ }
+{
+    let n = ring.len();
+    let mut table = [0u16; 8192];
+    ring::starts(ring, 1, &mut table);
+    put_row(room, &table[..n], 10)
+}
+
+// Line 5: the key's strand, its start, and the key, written straight from the ring.
+fn put_key(room: &mut [u8], ring: &[u8]) -> usize
+    requires { ⌜ Permitted 1 (now ring) × (8300 ≤ length (now room)) ⌝ }
+    ensures { λ r. ⌜ (r ≡ length (keyLine (now (ring .entry)))) × (r ≤ 8300) ⌝ }
+    ensures { λ _. ⌜ now (room .exit) ≡ over (keyLine (now (ring .entry))) (now (room .entry)) ⌝ }
+{
+    let marked = ring::mark(ring, 1);
+    let start = marked.start;
+    let strand = marked.strand;
+    let numbers = [strand as u16, start as u16];
+    let at = put_row(room, &numbers, 32);
+    ring::write_reading(ring, strand, start, &mut room[at..]);
+    let end = at + ring.len();
+    room[end] = 10;
+    end + 1
+}
+
+// All five, one behind another.
+pub fn put_lines(room: &mut [u8], ring: &[u8]) -> usize
+    requires { ⌜ Permitted 1 (now ring) × (160000 ≤ length (now room)) ⌝ }
+    ensures { λ r. ⌜ r ≡ length (fiveLines (now (ring .entry))) ⌝ }
+    ensures { λ _. ⌜ now (room .exit) ≡ over (fiveLines (now (ring .entry))) (now (room .entry)) ⌝ }
+{
+    let a = put_head(room, ring);
+    let b = a + put_factors(&mut room[a..], ring);
+    let c = b + put_suffixes(&mut room[b..], ring);
+    let d = c + put_starts(&mut room[c..], ring);
+    d + put_key(&mut room[d..], ring)
+}

@@ -2,3 +2,5 @@ pub mod Digits
 pub mod Rows
 pub mod Told
 pub mod Printed
+pub mod Determined
+pub mod Examples

@@ -29,7 +29,7 @@ use Rattle.ring.specs.Judging.{Permitted, verdict, over}
 use Rattle.ring.specs.Answers.{fewer, factoredOf, factoredTable, suffixesTable, startsTable, foughtOf, repeatedOf, markedOf}
 use Rattle.words.proofs.Runs.{table-few}
 use Rattle.ring.proofs.Laid.{length-over}
-use Rattle.ring.proofs.Exactly.{fits-taken}
+use Rattle.ring.proofs.Exactly.{permitted-taken}
 
 -- what was written to the front of a room
 pub front : (new old : List ℕ) → take (length new) (over new old) ≡ new
@@ -41,10 +41,10 @@ kept-none b h = by-test (eqb (getD b (length b - 1) 0) 10) (λ t. rw t (omega ar
 
 module _ (w : List ℕ) (p : Permitted 1 w) where
   alone : verdict 1 w false ≡ Taken
-  alone = fits-taken 1 w false p refl
+  alone = permitted-taken 1 w false p refl
 
   roomed : (size : ℕ) → length w ≤ size → verdict 1 w (fewer size w) ≡ Taken
-  roomed size h = fits-taken 1 w (fewer size w) p (le-ltb size (length w) h)
+  roomed size h = permitted-taken 1 w (fewer size w) p (le-ltb size (length w) h)
 
   pub told-fought : (r : Fought) → r ≡ foughtOf 1 w → (r .start ≡ start w) × (r .pairs ≡ pairs w)
   told-fought r e = rw (e, alone) (ap startOf (duels-end w (p .some)), refl)

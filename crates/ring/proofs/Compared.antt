@@ -18,7 +18,7 @@ use Rattle.ring.specs.declared.judge.Verdict.the-variants.{Taken}
 use Rattle.ring.specs.declared.answer.Compared.{Compared}
 use Rattle.ring.specs.Judging.{Permitted, verdict, taken, numberOf, placeOf}
 use Rattle.ring.specs.Answers.{equal, sameKey, comparedOf}
-use Rattle.ring.proofs.Taken.{permitted-taken}
+use Rattle.ring.proofs.Exactly.{permitted-taken}
 use Rattle.ring.proofs.Equal.{equal-true, equal-same, equal-false}
 
 pub length-key : (kind : ℕ) (w : List ℕ) → 0 < length w → length (key kind w) ≡ length w

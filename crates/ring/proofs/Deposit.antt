@@ -1,21 +1,20 @@
--- The deposit is the one ring that has a key with its start and strand.
+-- The deposit of letters, start and strand that are a key's: its own key, start and strand are those, and it is one reading of the letters.
 -- Assumes nothing.
-use mathlib.Core.Path.{_≡_, refl, sym, ap, ap₂, _∙_, subst}
+use mathlib.Core.Path.{_≡_, refl, sym, ap, _∙_, subst}
 use mathlib.Core.Bool.{true}
 use mathlib.Core.List.{List}
 use Prim.Native.Nat.{ℕ, _≤_, _<_, _-_}
 use native.Mathlib.Omega.{arith}
 use borrow.Author.Tests.{eq-eqb, ne-eqb}
 use lib.ListN.{length}
-use Rattle.words.specs.Ring.{reading, start, lowest}
+use Rattle.words.specs.Ring.{reading, start}
 use Rattle.words.specs.Strand.{opposite, onStrand, strand, keyStart, key}
 use Rattle.words.proofs.Ring.{start-is}
-use Rattle.words.proofs.Turn.{length-reading, reading-back}
-use Rattle.words.proofs.Strand.{opposite-reading, length-strand, strand-twice}
+use Rattle.words.proofs.Strand.{opposite-reading, length-strand}
 use Rattle.ring.specs.Judging.{Permitted}
 use Rattle.ring.specs.Answers.{IsKey, deposit, isKey}
 use Rattle.ring.proofs.Permits.{permitted-lowest, permitted-strand}
-use Rattle.ring.proofs.KeyFit.{isKey-is, isKey-true}
+use Rattle.ring.proofs.KeyFit.{isKey-is, isKey-true, deposit-one}
 use Rattle.ring.proofs.Compared.{length-key}
 
 pub permitted-key : (kind : ℕ) (w : List ℕ) → Permitted kind w → Permitted kind (key kind w)
@@ -30,24 +29,16 @@ module _ (kind : ℕ) (w : List ℕ) (h : 0 < length w) where
   unfolding keyStart
   start-below = omega (arith, start-is (onStrand (strand kind w) w) some-strand .within, length-strand (strand kind w) w)
 
-  -- the key of a ring, turned back, is the ring
+-- a ring has its own key, so the key turned back is the ring, and what the key has passes the test
+module _ (kind : ℕ) (w : List ℕ) (p : Permitted kind w) where
+  abbrev own : IsKey kind (key kind w) (keyStart kind w) (strand kind w)
+  own = record { ring = w; permitted = p; letters = refl; start = refl; strands = refl }
+
   pub deposit-back : deposit (key kind w) (keyStart kind w) (strand kind w) ≡ w
-  unfolding deposit key keyStart lowest
-  deposit-back =
-      let u : List ℕ = onStrand (strand kind w) w in
-      let s : start u ≤ length u = omega (arith, start-is u some-strand .within) in
-      let b : reading (reading u (start u)) (length (reading u (start u)) - start u) ≡ u = rw (length-reading u (start u) s) (reading-back u (start u) s some-strand) in
-      ap (onStrand (strand kind w)) b ∙ strand-twice (strand kind w) w
+  deposit-back = sym (deposit-one kind (key kind w) (keyStart kind w) (strand kind w) own)
 
--- what a ring's key has passes the test
-pub ring-passes : (kind : ℕ) (w : List ℕ) → Permitted kind w → isKey kind (key kind w) (keyStart kind w) (strand kind w) ≡ true
-ring-passes kind w p = isKey-true kind (key kind w) (keyStart kind w) (strand kind w) (record { ring = w; permitted = p; letters = refl; start = refl; strands = refl })
-
--- no other ring than the deposit has a key, start and strand
-pub one-deposit : (kind : ℕ) (k : List ℕ) (at s : ℕ) (i : IsKey kind k at s) → i .ring ≡ deposit k at s
-one-deposit kind k at s i =
-    sym (deposit-back kind (i .ring) (i .permitted .some)) ∙ ap (λ x. deposit x (keyStart kind (i .ring)) (strand kind (i .ring))) (i .letters)
-    ∙ ap₂ (deposit k) (i .start) (i .strands)
+  pub ring-passes : isKey kind (key kind w) (keyStart kind w) (strand kind w) ≡ true
+  ring-passes = isKey-true kind (key kind w) (keyStart kind w) (strand kind w) own
 
 -- what passes the test is what the deposit's key has
 module _ (kind : ℕ) (k : List ℕ) (at s : ℕ) (e : isKey kind k at s ≡ true) where
@@ -55,7 +46,7 @@ module _ (kind : ℕ) (k : List ℕ) (at s : ℕ) (e : isKey kind k at s ≡ tru
   has = isKey-is kind k at s e
 
   is : has .ring ≡ deposit k at s
-  is = one-deposit kind k at s has
+  is = deposit-one kind k at s has
 
   pub passes-permitted : Permitted kind (deposit k at s)
   passes-permitted = subst (Permitted kind) is (has .permitted)

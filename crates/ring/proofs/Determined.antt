@@ -10,12 +10,6 @@ use denote.Ref.{now}
 use Rattle.ring.proofs.judge.check
 use Rattle.ring.proofs.judge.check.Kinds as check-kinds
 use Rattle.ring.proofs.judge.check.Reads as check-reads
-use Rattle.ring.proofs.duels.duel
-use Rattle.ring.proofs.duels.duel.Kinds as duel-kinds
-use Rattle.ring.proofs.duels.duel.Reads as duel-reads
-use Rattle.ring.proofs.periods.repeat
-use Rattle.ring.proofs.periods.repeat.Kinds as repeat-kinds
-use Rattle.ring.proofs.periods.repeat.Reads as repeat-reads
 use Rattle.ring.proofs.factor.factors
 use Rattle.ring.proofs.factor.factors.Kinds as factors-kinds
 use Rattle.ring.proofs.factor.factors.Reads as factors-reads
@@ -25,6 +19,30 @@ use Rattle.ring.proofs.suffix.suffixes.Reads as suffixes-reads
 use Rattle.ring.proofs.start_table.starts
 use Rattle.ring.proofs.start_table.starts.Kinds as starts-kinds
 use Rattle.ring.proofs.start_table.starts.Reads as starts-reads
+use Rattle.ring.proofs.duels.duel
+use Rattle.ring.proofs.duels.duel.Kinds as duel-kinds
+use Rattle.ring.proofs.duels.duel.Reads as duel-reads
+use Rattle.ring.proofs.periods.repeat
+use Rattle.ring.proofs.periods.repeat.Kinds as repeat-kinds
+use Rattle.ring.proofs.periods.repeat.Reads as repeat-reads
+use Rattle.ring.proofs.keys.mark
+use Rattle.ring.proofs.keys.mark.Kinds as mark-kinds
+use Rattle.ring.proofs.keys.mark.Reads as mark-reads
+use Rattle.ring.proofs.keys.write_key
+use Rattle.ring.proofs.keys.write_key.Kinds as write-key-kinds
+use Rattle.ring.proofs.keys.write_key.Reads as write-key-reads
+use Rattle.ring.proofs.keys.key
+use Rattle.ring.proofs.keys.key.Kinds as key-kinds
+use Rattle.ring.proofs.keys.key.Reads as key-reads
+use Rattle.ring.proofs.keys.is_key
+use Rattle.ring.proofs.keys.is_key.Kinds as is-key-kinds
+use Rattle.ring.proofs.keys.is_key.Reads as is-key-reads
+use Rattle.ring.proofs.comparison.compare
+use Rattle.ring.proofs.comparison.compare.Kinds as compare-kinds
+use Rattle.ring.proofs.comparison.compare.Reads as compare-reads
+use Rattle.ring.proofs.reading.write_reading
+use Rattle.ring.proofs.reading.write_reading.Kinds as write-reading-kinds
+use Rattle.ring.proofs.reading.write_reading.Reads as write-reading-reads
 
 -- one value is promised, so two that are promised are one
 same : {A : Type 0} {x y z : A} → x ≡ z → y ≡ z → x ≡ y
@@ -33,14 +51,6 @@ same p q = p ∙ sym q
 pub check-determined : (κs : Lifetimes.Lfts 1) (a : World.ArgsD check.signature κs) (r s : World.ResD check.signature κs) (e f : Clauses.AtExit (Fn.endedOf 1 check-kinds.ps check-kinds.r) κs)
     → check-reads.Post κs a r e → check-reads.Post κs a s f → r ≡ s
 check-determined κs a r s e f p q = same p q
-
-pub duel-determined : (κs : Lifetimes.Lfts 1) (a : World.ArgsD duel.signature κs) (r s : World.ResD duel.signature κs) (e f : Clauses.AtExit (Fn.endedOf 1 duel-kinds.ps duel-kinds.r) κs)
-    → duel-reads.Post κs a r e → duel-reads.Post κs a s f → r ≡ s
-duel-determined κs a r s e f p q = same p q
-
-pub repeat-determined : (κs : Lifetimes.Lfts 1) (a : World.ArgsD repeat.signature κs) (r s : World.ResD repeat.signature κs) (e f : Clauses.AtExit (Fn.endedOf 1 repeat-kinds.ps repeat-kinds.r) κs)
-    → repeat-reads.Post κs a r e → repeat-reads.Post κs a s f → r ≡ s
-repeat-determined κs a r s e f p q = same p q
 
 pub factors-determined : (κs : Lifetimes.Lfts 2) (a : World.ArgsD factors.signature κs) (r s : World.ResD factors.signature κs) (e f : Clauses.AtExit (Fn.endedOf 2 factors-kinds.ps factors-kinds.r) κs)
     → factors-reads.Post κs a r e → factors-reads.Post κs a s f → (r ≡ s) × (now (e .1 .1 .0) ≡ now (f .1 .1 .0))
@@ -53,3 +63,35 @@ suffixes-determined κs a r s e f p q = (same (p .0) (q .0), same (p .1) (q .1))
 pub starts-determined : (κs : Lifetimes.Lfts 2) (a : World.ArgsD starts.signature κs) (r s : World.ResD starts.signature κs) (e f : Clauses.AtExit (Fn.endedOf 2 starts-kinds.ps starts-kinds.r) κs)
     → starts-reads.Post κs a r e → starts-reads.Post κs a s f → (r ≡ s) × (now (e .1 .1 .0) ≡ now (f .1 .1 .0))
 starts-determined κs a r s e f p q = (same (p .0) (q .0), same (p .1) (q .1))
+
+pub duel-determined : (κs : Lifetimes.Lfts 1) (a : World.ArgsD duel.signature κs) (r s : World.ResD duel.signature κs) (e f : Clauses.AtExit (Fn.endedOf 1 duel-kinds.ps duel-kinds.r) κs)
+    → duel-reads.Post κs a r e → duel-reads.Post κs a s f → r ≡ s
+duel-determined κs a r s e f p q = same p q
+
+pub repeat-determined : (κs : Lifetimes.Lfts 1) (a : World.ArgsD repeat.signature κs) (r s : World.ResD repeat.signature κs) (e f : Clauses.AtExit (Fn.endedOf 1 repeat-kinds.ps repeat-kinds.r) κs)
+    → repeat-reads.Post κs a r e → repeat-reads.Post κs a s f → r ≡ s
+repeat-determined κs a r s e f p q = same p q
+
+pub mark-determined : (κs : Lifetimes.Lfts 1) (a : World.ArgsD mark.signature κs) (r s : World.ResD mark.signature κs) (e f : Clauses.AtExit (Fn.endedOf 1 mark-kinds.ps mark-kinds.r) κs)
+    → mark-reads.Post κs a r e → mark-reads.Post κs a s f → r ≡ s
+mark-determined κs a r s e f p q = same p q
+
+pub write-key-determined : (κs : Lifetimes.Lfts 3) (a : World.ArgsD write_key.signature κs) (r s : World.ResD write_key.signature κs) (e f : Clauses.AtExit (Fn.endedOf 3 write-key-kinds.ps write-key-kinds.r) κs)
+    → write-key-reads.Post κs a r e → write-key-reads.Post κs a s f → (r ≡ s) × (now (e .1 .1 .0) ≡ now (f .1 .1 .0)) × (now (e .1 .1 .1 .0) ≡ now (f .1 .1 .1 .0))
+write-key-determined κs a r s e f p q = (same (p .0) (q .0), same (p .1 .0) (q .1 .0), same (p .1 .1) (q .1 .1))
+
+pub key-determined : (κs : Lifetimes.Lfts 2) (a : World.ArgsD key.signature κs) (r s : World.ResD key.signature κs) (e f : Clauses.AtExit (Fn.endedOf 2 key-kinds.ps key-kinds.r) κs)
+    → key-reads.Post κs a r e → key-reads.Post κs a s f → (now r ≡ now s) × (r .ptr ≡ s .ptr)
+key-determined κs a r s e f p q = (same (p .0) (q .0), same (p .1) (q .1))
+
+pub is-key-determined : (κs : Lifetimes.Lfts 1) (a : World.ArgsD is_key.signature κs) (r s : World.ResD is_key.signature κs) (e f : Clauses.AtExit (Fn.endedOf 1 is-key-kinds.ps is-key-kinds.r) κs)
+    → is-key-reads.Post κs a r e → is-key-reads.Post κs a s f → r ≡ s
+is-key-determined κs a r s e f p q = same p q
+
+pub compare-determined : (κs : Lifetimes.Lfts 2) (a : World.ArgsD compare.signature κs) (r s : World.ResD compare.signature κs) (e f : Clauses.AtExit (Fn.endedOf 2 compare-kinds.ps compare-kinds.r) κs)
+    → compare-reads.Post κs a r e → compare-reads.Post κs a s f → r ≡ s
+compare-determined κs a r s e f p q = same p q
+
+pub write-reading-determined : (κs : Lifetimes.Lfts 2) (a : World.ArgsD write_reading.signature κs) (r s : World.ResD write_reading.signature κs) (e f : Clauses.AtExit (Fn.endedOf 2 write-reading-kinds.ps write-reading-kinds.r) κs)
+    → write-reading-reads.Post κs a r e → write-reading-reads.Post κs a s f → (r ≡ s) × (now (e .1 .1 .1 .0) ≡ now (f .1 .1 .1 .0))
+write-reading-determined κs a r s e f p q = (same (p .0) (q .0), same (p .1) (q .1))

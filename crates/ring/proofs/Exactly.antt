@@ -35,9 +35,20 @@ good-before kind (a ∷ w) (suc i) h =
     (λ t. let k : suc i < suc (firstBad kind w) = rw t at h in good-before kind w i (omega arith))
     (λ t. absurd (let k : suc i < 0 = rw t at h in omega arith))
 
-pub all-letters : (kind : ℕ) (w : List ℕ) → ((i : ℕ) → i < length w → isLetter kind (getD w i 0) ≡ true) → length w ≤ firstBad kind w
-all-letters kind w l =
+pub good-all : (kind : ℕ) (w : List ℕ) → ((i : ℕ) → i < length w → isLetter kind (getD w i 0) ≡ true) → length w ≤ firstBad kind w
+good-all kind w l =
     either (lt-or-ge (firstBad kind w) (length w)) (λ h. absurd (true≢false (sym (l _ h) ∙ bad-here kind w h))) (λ h. h)
+
+pub good-at : (kind : ℕ) (w : List ℕ) → length w ≤ firstBad kind w → (i : ℕ) → i < length w → isLetter kind (getD w i 0) ≡ true
+good-at kind w h i l = good-before kind w i (omega arith)
+
+pub taken-is : (v : Verdict) → taken v ≡ true → v ≡ Taken
+taken-is Taken e = refl
+taken-is Kind e = absurd (true≢false (sym e))
+taken-is Empty e = absurd (true≢false (sym e))
+taken-is Long e = absurd (true≢false (sym e))
+taken-is (Letter i) e = absurd (true≢false (sym e))
+taken-is Short e = absurd (true≢false (sym e))
 
 -- ---- which rule answered
 
@@ -80,10 +91,10 @@ module _ (kind : ℕ) (w : List ℕ) (short : Bool) where
   fits (fine h l) e = (h, l)
 
   -- a call is done only on a permitted ring with room enough
-  pub taken-fits : verdict kind w short ≡ Taken → Permitted kind w × (short ≡ false)
-  taken-fits e = fits case (ap taken e)
+  pub taken-permitted : verdict kind w short ≡ Taken → Permitted kind w × (short ≡ false)
+  taken-permitted e = fits case (ap taken e)
 
   -- a permitted ring with room enough is taken
-  pub fits-taken : Permitted kind w → short ≡ false → verdict kind w short ≡ Taken
-  fits-taken p e =
-      says-taken kind w short (leb-true kind 1 (p .kinds)) (λ z. omega (arith, p .some)) (p .within) (all-letters kind w (p .letters)) e
+  pub permitted-taken : Permitted kind w → short ≡ false → verdict kind w short ≡ Taken
+  permitted-taken p e =
+      says-taken kind w short (leb-true kind 1 (p .kinds)) (λ z. omega (arith, p .some)) (p .within) (good-all kind w (p .letters)) e

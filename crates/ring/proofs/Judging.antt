@@ -81,10 +81,10 @@ module _ (kind : ℕ) (w : List ℕ) (short : Bool) where
 
 -- ---- an answer's arm for every verdict but Taken
 
-pub refused : (v : Verdict) → OneOf (1 ∷ 2 ∷ 3 ∷ 4 ∷ 5 ∷ []) (tagOf the-type v) → taken v ≡ false
-refused Taken o = absurd (miss (1 ∷ 2 ∷ 3 ∷ 4 ∷ 5 ∷ []) 0 tt o)
-refused Kind o = refl
-refused Empty o = refl
-refused Long o = refl
-refused (Letter i) o = refl
-refused Short o = refl
+pub not-taken : (v : Verdict) → OneOf (1 ∷ 2 ∷ 3 ∷ 4 ∷ 5 ∷ []) (tagOf the-type v) → taken v ≡ false
+not-taken Taken o = absurd (miss (1 ∷ 2 ∷ 3 ∷ 4 ∷ 5 ∷ []) 0 tt o)
+not-taken Kind o = refl
+not-taken Empty o = refl
+not-taken Long o = refl
+not-taken (Letter i) o = refl
+not-taken Short o = refl

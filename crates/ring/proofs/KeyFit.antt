@@ -22,7 +22,7 @@ use Rattle.words.proofs.TurnBack.{start-of-lowest, start-low, lowest-opposite, 
 use Rattle.ring.specs.Judging.{Permitted, verdict, taken}
 use Rattle.ring.specs.Strands.{leftTo}
 use Rattle.ring.specs.Answers.{equal, IsKey, deposit, isKey}
-use Rattle.ring.proofs.Taken.{taken-is, permitted-taken, taken-permitted}
+use Rattle.ring.proofs.Exactly.{taken-is, permitted-taken, taken-permitted}
 use Rattle.ring.proofs.Equal.{equal-true, equal-same}
 use Rattle.ring.proofs.Permits.{permitted-reading, permitted-lowest, permitted-opposite, permitted-strand}
 

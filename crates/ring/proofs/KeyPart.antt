@@ -18,7 +18,7 @@ use Rattle.ring.specs.declared.judge.Verdict.{Verdict}
 use Rattle.ring.specs.declared.answer.Marked.{Marked}
 use Rattle.ring.specs.Judging.{taken, over}
 use Rattle.ring.specs.Answers.{keyVerdict, keyedOf, keyPart, inSecond}
-use Rattle.ring.proofs.Taken.{taken-is}
+use Rattle.ring.proofs.Exactly.{taken-is}
 use Rattle.ring.proofs.Keyed.{Keyed, key-permitted}
 
 -- the front of a room that holds a lowest reading

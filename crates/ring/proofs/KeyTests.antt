@@ -18,7 +18,7 @@ use Rattle.ring.specs.declared.judge.Verdict.{Verdict}
 use Rattle.ring.specs.Judging.{Permitted, verdict, taken}
 use Rattle.ring.specs.Strands.{leftTo}
 use Rattle.ring.specs.Answers.{isKey}
-use Rattle.ring.proofs.Taken.{permitted-taken}
+use Rattle.ring.proofs.Exactly.{permitted-taken}
 use Rattle.ring.proofs.KeyFit.{Fit, fit-true, not-fit}
 
 module _ (kind : ℕ) (k : List ℕ) (at s : ℕ) where

@@ -18,7 +18,7 @@ use Rattle.ring.specs.declared.keys.Strands.{Strands}
 use Rattle.ring.specs.Judging.{Permitted, taken, over}
 use Rattle.ring.specs.Strands.{strandsOf, markedOn, refusedBy}
 use Rattle.ring.specs.Answers.{roomsShort, keyVerdict, keyedOf, firstRoom, secondRoom}
-use Rattle.ring.proofs.Taken.{taken-permitted}
+use Rattle.ring.proofs.Exactly.{taken-permitted}
 use Rattle.ring.proofs.Marks.{marked-refused, marked-plain, marked-stranded}
 
 -- the rooms that a taken ring has

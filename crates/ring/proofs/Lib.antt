@@ -5,7 +5,6 @@ pub mod Routing
 pub mod Exactly
 pub mod Numbers
 pub mod Determined
-pub mod Taken
 pub mod Permits
 pub mod Equal
 pub mod Rooms
@@ -19,3 +18,4 @@ pub mod Compared
 pub mod Rules
 pub mod Verdicts
 pub mod Deposit
+pub mod Routes

@@ -11,7 +11,7 @@ use Rattle.words.specs.Kind.{isLetter}
 use Rattle.ring.specs.declared.judge.Verdict.{Verdict}
 use Rattle.ring.specs.Judging.{most, firstBad, Permitted, numberOf, placeOf, verdict}
 use Rattle.ring.proofs.Judging.{says-kind, says-empty, says-long, says-letter, says-short}
-use Rattle.ring.proofs.Exactly.{Case, unknown, none, many, bad, small, fine, case, all-letters, bad-here, good-before, fits-taken}
+use Rattle.ring.proofs.Exactly.{Case, unknown, none, many, bad, small, fine, case, good-all, bad-here, good-before, permitted-taken}
 
 infix 15 _↔_
 abbrev pub _↔_ : Type 0 → Type 0 → Type 0
@@ -85,11 +85,11 @@ module _ (kind : ℕ) (w : List ℕ) (short : Bool) where
   -- 4: a needed table or room is short, and nothing else is wrong
   pub number-four : (numberOf (verdict kind w short) ≡ 4) ↔ (Permitted kind w × (short ≡ true))
   number-four =
-      (four-only (case kind w short), λ h. ap numberOf (says-short kind w short (leb-true kind 1 (h .0 .kinds)) (λ z. omega (arith, h .0 .some)) (h .0 .within) (all-letters kind w (h .0 .letters)) (h .1)))
+      (four-only (case kind w short), λ h. ap numberOf (says-short kind w short (leb-true kind 1 (h .0 .kinds)) (λ z. omega (arith, h .0 .some)) (h .0 .within) (good-all kind w (h .0 .letters)) (h .1)))
 
   -- 0: done
   pub number-nought : (numberOf (verdict kind w short) ≡ 0) ↔ (Permitted kind w × (short ≡ false))
-  number-nought = (nought-only (case kind w short), λ h. ap numberOf (fits-taken kind w short (h .0) (h .1)))
+  number-nought = (nought-only (case kind w short), λ h. ap numberOf (permitted-taken kind w short (h .0) (h .1)))
 
   -- ---- the place
 

@@ -12,7 +12,7 @@ use Rattle.ring.specs.declared.judge.Verdict.the-variants.{Taken, Kind, 
 use Rattle.ring.specs.Rule.{Rule, rule, judged}
 use Rattle.ring.specs.Judging.{Permitted, ringRules, verdict, taken, numberOf}
 use Rattle.ring.proofs.Judging.{says-short}
-use Rattle.ring.proofs.Taken.{good-all, taken-permitted}
+use Rattle.ring.proofs.Exactly.{good-all, taken-permitted}
 use Rattle.ring.proofs.Rules.{done-clear, clear-more, refused-more}
 
 -- ---- 0 is given for Taken alone

@@ -5,7 +5,9 @@ ghost use lib.ListN.{length};
 ghost use Rattle.words.specs.Ring.{start, reading, lowest};
 ghost use Rattle.words.specs.Strand.{opposite};
 ghost use Rattle.ring.specs.Answers.{equal, sameKey, comparedOf};
+ghost use Rattle.ring.specs.Judging.{most};
 use super::answer::Compared;
+use super::judge::MOST;
 use super::judge::Verdict;
 use super::judge::has_strands;
 use super::judge::judge;
@@ -17,11 +19,11 @@ use super::strand::copy_opposite;
 
 // Whether the lowest reading of the first ring's opposite strand is the reading at `at` of the second.
 fn same_opposite(first: &[u8], second: &[u8], at: usize) -> bool
-    requires { ⌜ (0 < length (now first)) × (length (now first) ≤ 8192) × (length (now first) ≡ length (now second)) × (at < length (now second)) ⌝ }
+    requires { ⌜ (0 < length (now first)) × (length (now first) ≤ most) × (length (now first) ≡ length (now second)) × (at < length (now second)) ⌝ }
     ensures { λ r. ⌜ r ≡ equal (lowest (opposite (now (first .entry)))) (reading (now (second .entry)) at) ⌝ }
 {
     let n = first.len();
-    let mut room = [0u8; 8192];
+    let mut room = [0u8; MOST];
     copy_opposite(first, &mut room);
     let other = &room[..n];
     let c = start_of(other);
@@ -30,7 +32,7 @@ fn same_opposite(first: &[u8], second: &[u8], at: usize) -> bool
 
 // Whether two permitted rings have one key: the lowest readings agree, or those of the first's opposite strand and the second.
 fn same_key(kind: u8, first: &[u8], second: &[u8]) -> bool
-    requires { ⌜ (0 < length (now first)) × (length (now first) ≤ 8192) × (0 < length (now second)) ⌝ }
+    requires { ⌜ (0 < length (now first)) × (length (now first) ≤ most) × (0 < length (now second)) ⌝ }
     ensures { λ r. ⌜ r ≡ sameKey kind (now (first .entry)) (now (second .entry)) ⌝ }
 {
     if first.len() != second.len() {

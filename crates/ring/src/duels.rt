@@ -4,8 +4,13 @@ ghost use Prim.Native.Nat.{_≤_, _<_};
 ghost use lib.ListN.{length};
 ghost use Rattle.words.specs.Duel.{duels, startOf, pairs, movedP, movedQ};
 ghost use Rattle.ring.specs.Answers.{foughtOf};
+ghost use Rattle.ring.specs.Judging.{most};
 use super::answer::Fought;
 use super::judge::Verdict;
+use super::judge::judge;
+use super::judge::number_of;
+use super::judge::place_of;
+use super::reading::letter;
 
 // Where the two positions of a duel stand.
 struct Pair {
@@ -40,7 +45,7 @@ struct Ended {
 
 // Steps 1 to 4: a duel ends at its first differing pair, or after n equal pairs.
 fn fight(ring: &[u8]) -> Ended
-    requires { ⌜ (0 < length (now ring)) × (length (now ring) ≤ 8192) ⌝ }
+    requires { ⌜ (0 < length (now ring)) × (length (now ring) ≤ most) ⌝ }
     ensures { λ r. ⌜ (r .start ≡ startOf (duels (now (ring .entry)))) × (r .pairs ≡ pairs (now (ring .entry))) ⌝ }
 {
     let n = ring.len();
@@ -53,7 +58,7 @@ fn fight(ring: &[u8]) -> Ended
             if k == n {
                 break 'scan n;
             }
-            if super::reading::letter(ring, p + k) != super::reading::letter(ring, q + k) {
+            if letter(ring, p + k) != letter(ring, q + k) {
                 break 'scan k;
             }
             k += 1;
@@ -65,8 +70,8 @@ fn fight(ring: &[u8]) -> Ended
             };
         }
         read += met + 1;
-        let a = super::reading::letter(ring, p + met);
-        let b = super::reading::letter(ring, q + met);
+        let a = letter(ring, p + met);
+        let b = letter(ring, q + met);
         let next = moved(p, q, met, a, b);
         p = next.p;
         q = next.q;
@@ -81,11 +86,11 @@ fn fight(ring: &[u8]) -> Ended
 pub fn duel(ring: &[u8], kind: u8) -> Fought
     ensures { λ r. ⌜ r ≡ foughtOf kind (now (ring .entry)) ⌝ }
 {
-    let v = super::judge::judge(ring, kind, false);
+    let v = judge(ring, kind, false);
     let Verdict::Taken = v else {
         return Fought {
-            number: super::judge::number_of(v),
-            place: super::judge::place_of(v),
+            number: number_of(v),
+            place: place_of(v),
             start: 0,
             pairs: 0,
         };

@@ -4,11 +4,15 @@ ghost use Prim.Native.Nat.{_+_, _*_, _<_, _≤_};
 ghost use lib.ListN.{length};
 ghost use Rattle.words.specs.Factor.{FirstRun, factorTable};
 ghost use Rattle.words.specs.Ring.{start};
-ghost use Rattle.ring.specs.Judging.{over};
+ghost use Rattle.ring.specs.Judging.{most, over};
 ghost use Rattle.ring.specs.Spaced.{spaced};
 ghost use Rattle.ring.specs.Answers.{factoredOf, factoredTable};
 use super::answer::Factored;
 use super::judge::Verdict;
+use super::judge::judge;
+use super::judge::number_of;
+use super::judge::place_of;
+use super::reading::lower;
 
 // How long the first factor is, and where the run of factors equal to it ends.
 pub struct Run {
@@ -43,7 +47,7 @@ pub fn first_factor(s: &[u8]) -> Run
 
 // Writes `times` positions, the first of them `from` and each `size` behind the one before, to the table's front.
 fn write_run(table: &mut [u16], from: usize, size: usize, times: usize)
-    requires { ⌜ (times ≤ length (now table)) × (from + times * size ≤ 8192) × (0 < size) ⌝ }
+    requires { ⌜ (times ≤ length (now table)) × (from + times * size ≤ most) × (0 < size) ⌝ }
     ensures { λ _. ⌜ now (table .exit) ≡ over (spaced times from size) (now (table .entry)) ⌝ }
 {
     let mut at = from;
@@ -64,7 +68,7 @@ struct Route {
 // Fills the factor table: of each run of equal factors all positions, and the slice behind the run is searched next. Of the
 // runs' heads the one whose reading is lowest is kept, the first if several are equal.
 fn fill_factors(ring: &[u8], table: &mut [u16]) -> Route
-    requires { ⌜ (0 < length (now ring)) × (length (now ring) ≤ 8192) × (length (now ring) ≤ length (now table)) ⌝ }
+    requires { ⌜ (0 < length (now ring)) × (length (now ring) ≤ most) × (length (now ring) ≤ length (now table)) ⌝ }
     ensures { λ r. ⌜ (r .count ≡ length (factorTable (now (ring .entry)))) × (r .start ≡ start (now (ring .entry))) ⌝ }
     ensures { λ _. ⌜ now (table .exit) ≡ over (factorTable (now (ring .entry))) (now (table .entry)) ⌝ }
 {
@@ -79,7 +83,7 @@ fn fill_factors(ring: &[u8], table: &mut [u16]) -> Route
         let times = end / size;
         write_run(&mut table[count..], from, size, times);
         count += times;
-        if super::reading::lower(ring, from, ring, best) {
+        if lower(ring, from, ring, best) {
             best = from;
         }
         from += end;
@@ -93,11 +97,11 @@ pub fn factors(ring: &[u8], kind: u8, table: &mut [u16]) -> Factored
     ensures { λ r. ⌜ r ≡ factoredOf kind (now (ring .entry)) (length (now (table .entry))) ⌝ }
     ensures { λ _. ⌜ now (table .exit) ≡ factoredTable kind (now (ring .entry)) (now (table .entry)) ⌝ }
 {
-    let v = super::judge::judge(ring, kind, table.len() < ring.len());
+    let v = judge(ring, kind, table.len() < ring.len());
     let Verdict::Taken = v else {
         return Factored {
-            number: super::judge::number_of(v),
-            place: super::judge::place_of(v),
+            number: number_of(v),
+            place: place_of(v),
             count: 0,
             start: 0,
         };

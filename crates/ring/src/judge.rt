@@ -5,6 +5,9 @@ ghost use Rattle.ring.specs.Judging.{firstBad, verdict, numberOf, placeO
 ghost use Rattle.ring.specs.Answers.{checkedOf};
 use super::answer::Checked;
 
+// The most letters that a ring has.
+pub const MOST: usize = 8192;
+
 // What is said of a ring; `Letter` holds the first position that has no letter of the kind.
 pub enum Verdict {
     Taken,
@@ -95,7 +98,7 @@ pub fn judge(ring: &[u8], kind: u8, short: bool) -> Verdict
     if n == 0 {
         return Verdict::Empty;
     }
-    if 8192 < n {
+    if MOST < n {
         return Verdict::Long;
     }
     let bad = first_bad(ring, kind);

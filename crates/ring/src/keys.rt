@@ -7,8 +7,10 @@ ghost use lib.ListN.{length};
 ghost use Rattle.words.specs.Kind.{stranded};
 ghost use Rattle.ring.specs.Strands.{strandsOf, markedOn, refusedBy, leftTo};
 ghost use Rattle.ring.specs.Answers.{markedOf, keyedOf, firstRoom, secondRoom, keyPart, inSecond, isKey};
+ghost use Rattle.ring.specs.Judging.{most};
 use super::answer::Marked;
 use super::factor::first_factor;
+use super::judge::MOST;
 use super::judge::Verdict;
 use super::judge::has_strands;
 use super::judge::judge;
@@ -29,11 +31,11 @@ pub struct Strands {
 
 // Both strands read; on a tie the key is on strand 0.
 fn read_strands(ring: &[u8]) -> Strands
-    requires { ⌜ (0 < length (now ring)) × (length (now ring) ≤ 8192) ⌝ }
+    requires { ⌜ (0 < length (now ring)) × (length (now ring) ≤ most) ⌝ }
     ensures { λ r. ⌜ r ≡ strandsOf (now (ring .entry)) ⌝ }
 {
     let n = ring.len();
-    let mut room = [0u8; 8192];
+    let mut room = [0u8; MOST];
     copy_opposite(ring, &mut room);
     let other = &room[..n];
     let a = start_of(ring);
@@ -165,11 +167,11 @@ pub fn key<'a>(ring: &[u8], kind: u8, first: &'a mut [u8], second: &'a mut [u8])
 
 // Whether the opposite strand leaves the key to these letters: it has no lesser reading, and on strand 1 none as low.
 fn left_to(letters: &[u8], strand: u8) -> bool
-    requires { ⌜ (0 < length (now letters)) × (length (now letters) ≤ 8192) ⌝ }
+    requires { ⌜ (0 < length (now letters)) × (length (now letters) ≤ most) ⌝ }
     ensures { λ r. ⌜ r ≡ leftTo (now (letters .entry)) strand ⌝ }
 {
     let n = letters.len();
-    let mut room = [0u8; 8192];
+    let mut room = [0u8; MOST];
     copy_opposite(letters, &mut room);
     let other = &room[..n];
     let b = start_of(other);

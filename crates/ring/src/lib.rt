@@ -2,6 +2,7 @@
 mod answer;
 mod comparison;
 mod duels;
+mod facing;
 mod factor;
 mod judge;
 mod keys;

@@ -5,8 +5,14 @@ ghost use lib.ListN.{length};
 ghost use Rattle.words.specs.Match.{MatchTable};
 ghost use Rattle.words.specs.Repeat as repeats;
 ghost use Rattle.ring.specs.Answers.{repeatedOf};
+ghost use Rattle.ring.specs.Judging.{most};
 use super::answer::Repeated;
+use super::judge::MOST;
 use super::judge::Verdict;
+use super::judge::judge;
+use super::judge::number_of;
+use super::judge::place_of;
+use super::matches::match_lengths;
 
 fn wide(x: u16) -> usize
     ensures { λ r. ⌜ r ≡ x ⌝ }
@@ -16,7 +22,7 @@ fn wide(x: u16) -> usize
 
 // The first position from 1 on whose letters match the front to the end, n if there is none.
 fn first_period(ring: &[u8], lengths: &[u16]) -> usize
-    requires { ⌜ (0 < length (now ring)) × (length (now ring) ≤ 8192) × (length (now ring) ≤ length (now lengths)) × MatchTable (now ring) (now lengths) ⌝ }
+    requires { ⌜ (0 < length (now ring)) × (length (now ring) ≤ most) × (length (now ring) ≤ length (now lengths)) × MatchTable (now ring) (now lengths) ⌝ }
     ensures { λ r. ⌜ r ≡ repeats.repeat (now (ring .entry)) ⌝ }
 {
     let n = ring.len();
@@ -34,16 +40,16 @@ fn first_period(ring: &[u8], lengths: &[u16]) -> usize
 pub fn repeat(ring: &[u8], kind: u8) -> Repeated
     ensures { λ r. ⌜ r ≡ repeatedOf kind (now (ring .entry)) ⌝ }
 {
-    let v = super::judge::judge(ring, kind, false);
+    let v = judge(ring, kind, false);
     let Verdict::Taken = v else {
         return Repeated {
-            number: super::judge::number_of(v),
-            place: super::judge::place_of(v),
+            number: number_of(v),
+            place: place_of(v),
             repeat: 0,
         };
     };
-    let mut lengths = [0u16; 8192];
-    super::matches::match_lengths(ring, &mut lengths);
+    let mut lengths = [0u16; MOST];
+    match_lengths(ring, &mut lengths);
     Repeated {
         number: 0,
         place: 0,

@@ -9,8 +9,14 @@ ghost use Rattle.words.specs.Match.{MatchTable, Kept};
 ghost use Rattle.words.specs.Block.{Head, Block};
 ghost use Rattle.ring.specs.Answers.{filledOf, startsTable};
 ghost use Rattle.words.specs.Mark.{Flagged, unmark, Judged, Outside, Fresh, Marking, Marked, Done};
+ghost use Rattle.ring.specs.Judging.{most};
 use super::answer::Filled;
+use super::factor::first_factor;
 use super::judge::Verdict;
+use super::judge::judge;
+use super::judge::number_of;
+use super::judge::place_of;
+use super::matches::match_lengths;
 
 // A head's entry has this added; no match length and no start reaches it.
 const HEAD: u16 = 8192;
@@ -20,20 +26,20 @@ const MARK: u16 = 16384;
 
 // Flags the heads.
 fn flag_heads(w: &[u8], t: &mut [u16])
-    requires { ⌜ (length (now w) ≤ 8192) × (length (now w) ≤ length (now t)) × MatchTable (now w) (now t) ⌝ }
-    ensures { λ _. ⌜ Flagged 8192 (now (w .entry)) (now (t .exit)) (length (now (w .entry))) × Kept (length (now (w .entry))) (now (t .entry)) (now (t .exit)) ⌝ }
+    requires { ⌜ (length (now w) ≤ most) × (length (now w) ≤ length (now t)) × MatchTable (now w) (now t) ⌝ }
+    ensures { λ _. ⌜ Flagged most (now (w .entry)) (now (t .exit)) (length (now (w .entry))) × Kept (length (now (w .entry))) (now (t .entry)) (now (t .exit)) ⌝ }
 {
     let mut m: usize = 0;
     while m < w.len() {
         t[m] = t[m] + HEAD;
-        let run = super::factor::first_factor(&w[m..]);
+        let run = first_factor(&w[m..]);
         m += run.end;
     }
 }
 
 // An entry without its mark.
 fn unmarked(v: u16) -> usize
-    ensures { λ r. ⌜ r ≡ unmark 8192 v ⌝ }
+    ensures { λ r. ⌜ r ≡ unmark most v ⌝ }
 {
     if MARK <= v {
         (v - MARK) as usize
@@ -44,9 +50,9 @@ fn unmarked(v: u16) -> usize
 
 // What to add to entry `l` of the block from `m`, where letter `l` goes on the word of `p` letters.
 fn mark_for(w: &[u8], t: &[u16], m: usize, p: usize, l: usize) -> u16
-    requires { ⌜ (l < length (now w)) × (length (now w) ≤ 8192) × (length (now w) ≤ length (now t)) ⌝ }
-    requires { ⌜ Marking 8192 (now w) (now t) m p l × Block (now w) m p (l + 1) ⌝ }
-    ensures { λ r. ⌜ Judged 8192 (drop m (now (w .entry))) (take m (now (w .entry))) (l + 1 - m) r ⌝ }
+    requires { ⌜ (l < length (now w)) × (length (now w) ≤ most) × (length (now w) ≤ length (now t)) ⌝ }
+    requires { ⌜ Marking most (now w) (now t) m p l × Block (now w) m p (l + 1) ⌝ }
+    ensures { λ r. ⌜ Judged most (drop m (now (w .entry))) (take m (now (w .entry))) (l + 1 - m) r ⌝ }
 {
     if p + p < l + 1 - m {
         if MARK <= t[l - p] {
@@ -70,9 +76,9 @@ fn mark_for(w: &[u8], t: &[u16], m: usize, p: usize, l: usize) -> u16
 
 // Marks the entries of the block from `m` whose start is `m`, and answers where the block ends.
 fn mark(w: &[u8], t: &mut [u16], m: usize) -> usize
-    requires { ⌜ (m < length (now w)) × (length (now w) ≤ 8192) × (length (now w) ≤ length (now t)) ⌝ }
-    requires { ⌜ Head (now w) m × Fresh 8192 (now w) (now t) m ⌝ }
-    ensures { λ r. ⌜ Marked 8192 (now (w .entry)) (now (t .exit)) m r × Outside (now (t .entry)) (now (t .exit)) m r ⌝ }
+    requires { ⌜ (m < length (now w)) × (length (now w) ≤ most) × (length (now w) ≤ length (now t)) ⌝ }
+    requires { ⌜ Head (now w) m × Fresh most (now w) (now t) m ⌝ }
+    ensures { λ r. ⌜ Marked most (now (w .entry)) (now (t .exit)) m r × Outside (now (t .entry)) (now (t .exit)) m r ⌝ }
 {
     t[m] = MARK;
     let mut p: usize = 1;
@@ -95,7 +101,7 @@ fn mark(w: &[u8], t: &mut [u16], m: usize) -> usize
 
 // Turns the marks of the block from `m` to `end` into starts.
 fn resolve(w: &[u8], t: &mut [u16], m: usize, end: usize)
-    requires { ⌜ (length (now w) ≤ 8192) × (length (now w) ≤ length (now t)) × Marked 8192 (now w) (now t) m end ⌝ }
+    requires { ⌜ (length (now w) ≤ most) × (length (now w) ≤ length (now t)) × Marked most (now w) (now t) m end ⌝ }
     ensures { λ _. ⌜ Done (now (w .entry)) (now (t .entry)) (now (t .exit)) m end ⌝ }
 {
     t[m] = m as u16;
@@ -115,10 +121,10 @@ fn resolve(w: &[u8], t: &mut [u16], m: usize, end: usize)
 
 // Writes for each prefix of `w` the start of the ring made of it alone.
 fn fill_starts(w: &[u8], t: &mut [u16])
-    requires { ⌜ (0 < length (now w)) × (length (now w) ≤ 8192) × (length (now w) ≤ length (now t)) ⌝ }
+    requires { ⌜ (0 < length (now w)) × (length (now w) ≤ most) × (length (now w) ≤ length (now t)) ⌝ }
     ensures { λ _. ⌜ now (t .exit) ≡ startTable (now (w .entry)) ++ drop (length (now (w .entry))) (now (t .entry)) ⌝ }
 {
-    super::matches::match_lengths(w, t);
+    match_lengths(w, t);
     flag_heads(w, t);
     let mut c = w.len();
     while 0 < c {
@@ -135,11 +141,11 @@ pub fn starts(ring: &[u8], kind: u8, table: &mut [u16]) -> Filled
     ensures { λ r. ⌜ r ≡ filledOf kind (now (ring .entry)) (length (now (table .entry))) ⌝ }
     ensures { λ _. ⌜ now (table .exit) ≡ startsTable kind (now (ring .entry)) (now (table .entry)) ⌝ }
 {
-    let v = super::judge::judge(ring, kind, table.len() < ring.len());
+    let v = judge(ring, kind, table.len() < ring.len());
     let Verdict::Taken = v else {
         return Filled {
-            number: super::judge::number_of(v),
-            place: super::judge::place_of(v),
+            number: number_of(v),
+            place: place_of(v),
         };
     };
     fill_starts(ring, table);

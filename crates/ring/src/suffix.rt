@@ -3,15 +3,18 @@ ghost use mathlib.Core.Path.{_≡_};
 ghost use Prim.Native.Nat.{_≤_};
 ghost use lib.ListN.{length};
 ghost use Rattle.words.specs.Prefix.{suffixTable};
-ghost use Rattle.ring.specs.Judging.{over};
+ghost use Rattle.ring.specs.Judging.{most, over};
 ghost use Rattle.ring.specs.Answers.{filledOf, suffixesTable};
 use super::answer::Filled;
 use super::judge::Verdict;
+use super::judge::judge;
+use super::judge::number_of;
+use super::judge::place_of;
 
 // Block by block, each a Lyndon word over and over: an entry is the block's head where the block is one Lyndon word, else the
 // entry one word before, plus that word's length.
 fn fill_suffixes(ring: &[u8], table: &mut [u16])
-    requires { ⌜ (length (now ring) ≤ length (now table)) × (length (now ring) ≤ 8192) ⌝ }
+    requires { ⌜ (length (now ring) ≤ length (now table)) × (length (now ring) ≤ most) ⌝ }
     ensures { λ _. ⌜ now (table .exit) ≡ over (suffixTable (now (ring .entry))) (now (table .entry)) ⌝ }
 {
     let n = ring.len();
@@ -41,11 +44,11 @@ pub fn suffixes(ring: &[u8], kind: u8, table: &mut [u16]) -> Filled
     ensures { λ r. ⌜ r ≡ filledOf kind (now (ring .entry)) (length (now (table .entry))) ⌝ }
     ensures { λ _. ⌜ now (table .exit) ≡ suffixesTable kind (now (ring .entry)) (now (table .entry)) ⌝ }
 {
-    let v = super::judge::judge(ring, kind, table.len() < ring.len());
+    let v = judge(ring, kind, table.len() < ring.len());
     let Verdict::Taken = v else {
         return Filled {
-            number: super::judge::number_of(v),
-            place: super::judge::place_of(v),
+            number: number_of(v),
+            place: place_of(v),
         };
     };
     fill_suffixes(ring, table);

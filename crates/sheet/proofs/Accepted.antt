@@ -13,7 +13,7 @@ use Rattle.words.specs.Kind.{known}
 use Rattle.words.proofs.Search.{by-test}
 use Rattle.ring.specs.Judging.{Permitted}
 use Rattle.ring.proofs.Rules.{Clear, clear-join, clear-done, number-clear, done-clear, first-holds}
-use Rattle.ring.proofs.Taken.{good-at}
+use Rattle.ring.proofs.Exactly.{good-at}
 use Rattle.ring.proofs.Deposit.{passes-permitted, passes-key, passes-start, passes-strand, ring-passes}
 use Rattle.sheet.specs.Sheet.{Marks, low, high, trailerOf, bytesOf, marksOf, sheetOf, Written, depositOf, isMade}
 use Rattle.sheet.specs.Trailer.{Bytes, trailer, wayBack, before, marksIn, wrongMarks, formRules, notMade, sheetRules, sheetIn, foundOf, numberOf}

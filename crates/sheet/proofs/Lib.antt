@@ -7,3 +7,4 @@ pub mod Books
 pub mod Walking
 pub mod Numbers
 pub mod Examples
+pub mod Determined

@@ -17,7 +17,7 @@ use Rattle.words.proofs.Search.{by-test}
 use Rattle.ring.specs.Rule.{rule}
 use Rattle.ring.specs.Judging.{most, Permitted, firstBad, over}
 use Rattle.ring.proofs.Rules.{Clear, clear-join, clear-more, clear-done}
-use Rattle.ring.proofs.Taken.{good-all}
+use Rattle.ring.proofs.Exactly.{good-all}
 use Rattle.ring.proofs.Compared.{length-key}
 use Rattle.ring.proofs.Deposit.{deposit-back, permitted-key, ring-passes}
 use Rattle.sheet.specs.declared.answer.Found.the-variants.{Sheet, Refused}
@@ -126,7 +126,7 @@ module _ (pre : List ℕ) (kind : ℕ) (w : List ℕ) (p : Permitted kind w) whe
   -- and to its deposit
   pub round-deposit : depositOf (marksIn (pre ++ sheetOf kind w)) ≡ w
   unfolding sheetOf
-  round-deposit = ap depositOf (marks-bytes pre (marksOf kind w)) ∙ deposit-back kind w (p .some)
+  round-deposit = ap depositOf (marks-bytes pre (marksOf kind w)) ∙ deposit-back kind w p
 
   module _ (room : List ℕ) (h : length w ≤ length room) where
     restored-written : restoredOf (pre ++ sheetOf kind w) (length room) ≡ Sheet (length w) (keyStart kind w) (strand kind w) kind (length pre)

@@ -12,13 +12,13 @@ use lib.ListN.{length, take, drop, set, length-append}
 use lib.Seq.{sets-eq, take-at, drop-append-add, drop-drop}
 use Rattle.words.specs.Ring.{reading, lowest}
 use Rattle.words.specs.Strand.{onStrand, strand, keyStart, key}
+use Rattle.ring.proofs.Laid.{length-over}
 use Rattle.ring.specs.declared.judge.Verdict.{Verdict}
 use Rattle.ring.specs.declared.judge.Verdict.the-variants.{Taken, Short}
 use Rattle.ring.specs.declared.answer.Marked.{Marked}
 use Rattle.ring.specs.Judging.{Permitted, verdict, numberOf, over, after}
 use Rattle.ring.specs.Answers.{markedAs, markedOf, wroteRoom}
-use Rattle.ring.proofs.Taken.{permitted-taken}
-use Rattle.ring.proofs.Laid.{length-over}
+use Rattle.ring.proofs.Exactly.{permitted-taken}
 use Rattle.ring.proofs.Verdicts.{number-refused, number-permitted, refused-any, permitted-short}
 use Rattle.ring.proofs.Compared.{length-key}
 use Rattle.ring.proofs.Deposit.{start-below}

@@ -1,3 +1,4 @@
+-- What the public contracts and the theorems speak of
 pub mod Search
 pub mod Order
 pub mod Least
@@ -10,6 +11,7 @@ pub mod Prefix
 pub mod Repeat
 pub mod Duel
 pub mod Table
+-- What only the contracts of inner functions cite
 pub mod Block
 pub mod Start
 pub mod Match

@@ -2,7 +2,8 @@
 -- Assumes nothing.
 use borrow.Author.Needs.{needs}
 use mathlib.Core.Path.{sym, _∙_}
-use Rattle.ring.proofs.Taken.{not-taken, taken-permitted}
+use Rattle.ring.proofs.Judging.{not-taken}
+use Rattle.ring.proofs.Exactly.{taken-permitted}
 use Rattle.ring.proofs.Compared.{compared-first, compared-second, compared-done}
 use Rattle.ring.proofs.comparison.compare.Statement.{statement}
 use Rattle.ring.proofs.comparison.compare.Tie as tie

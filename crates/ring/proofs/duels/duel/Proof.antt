@@ -1,8 +1,8 @@
 -- `ring::duels::duel` meets its contract.
 -- Assumes nothing.
 use mathlib.Core.Path.{sym, _∙_}
-use Rattle.ring.proofs.Judging.{refused}
-use Rattle.ring.proofs.Exactly.{taken-fits}
+use Rattle.ring.proofs.Judging.{not-taken}
+use Rattle.ring.proofs.Exactly.{taken-permitted}
 use borrow.Author.Needs.{needs}
 use Rattle.ring.proofs.duels.duel.Statement.{statement}
 use Rattle.ring.proofs.duels.duel.Tie as tie
@@ -22,12 +22,12 @@ place-of-requires c κs = search needs
 returns : tie.Need-returns
 returns c =
     let e = c .before .before .before .judge .ensures in
-    let r = refused (c .before .before .before .judge .result) (c .before .before .match .keys2) in
+    let r = not-taken (c .before .before .before .judge .result) (c .before .before .match .keys2) in
     rw (← e, r) (cc)
 
 fight-requires : tie.Need-fight-requires
 fight-requires c κs =
-    let f = taken-fits _ _ _ (sym (c .before .before .judge .ensures) ∙ c .enum-told .given .1) in
+    let f = taken-permitted _ _ _ (sym (c .before .before .judge .ensures) ∙ c .enum-told .given .1) in
     (f .0 .some, f .0 .within)
 
 returns-2 : tie.Need-returns-2

@@ -4,8 +4,8 @@ use borrow.Author.Needs.{needs}
 use mathlib.Core.Path.{sym, _∙_}
 use borrow.Author.Tests.{ltb-false}
 use Rattle.words.proofs.Route.{route-is}
-use Rattle.ring.proofs.Judging.{refused}
-use Rattle.ring.proofs.Exactly.{taken-fits}
+use Rattle.ring.proofs.Judging.{not-taken}
+use Rattle.ring.proofs.Exactly.{taken-permitted}
 use Rattle.ring.proofs.factor.factors.Statement.{statement}
 use Rattle.ring.proofs.factor.factors.Tie as tie
 use Rattle.ring.proofs.factor.factors.Reads as reads
@@ -30,12 +30,12 @@ place-of-requires c κs = search needs
 returns : tie.Need-returns
 returns c =
     let e = c .before .before .before .judge .ensures in
-    let r = refused (c .before .before .before .judge .result) (c .before .before .match .keys2) in
+    let r = not-taken (c .before .before .before .judge .result) (c .before .before .match .keys2) in
     (rw (← e, r) (cc), rw (← e, r))
 
 fill-factors-requires : tie.Need-fill-factors-requires
 fill-factors-requires c κs =
-    let f = taken-fits _ _ _ (sym (c .before .before .before .judge .ensures) ∙ c .before .enum-told .given .1) in
+    let f = taken-permitted _ _ _ (sym (c .before .before .before .judge .ensures) ∙ c .before .enum-told .given .1) in
     (f .0 .some, f .0 .within, ltb-false _ _ (f .1))
 
 same-length : tie.Need-same-length
@@ -44,7 +44,7 @@ same-length c = search needs
 returns-2 : tie.Need-returns-2
 returns-2 c =
     let e = sym (c .before .before .before .before .before .before .judge .ensures) ∙ c .before .before .before .before .enum-told .given .1 in
-    let f = taken-fits _ _ _ e in
+    let f = taken-permitted _ _ _ e in
     let d = c .before .before .fill-factors .ensures in
     (rw e (cc (d .0 .0, d .0 .1, route-is _ (f .0 .some))), rw e (d .1))
 

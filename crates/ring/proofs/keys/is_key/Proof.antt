@@ -3,7 +3,8 @@
 use borrow.Author.Needs.{needs}
 use mathlib.Core.Path.{sym, _∙_}
 use Rattle.ring.specs.Judging.{Permitted}
-use Rattle.ring.proofs.Taken.{not-taken, taken-permitted}
+use Rattle.ring.proofs.Judging.{not-taken}
+use Rattle.ring.proofs.Exactly.{taken-permitted}
 use Rattle.ring.proofs.KeyTests.{test-refused, test-more, test-late, test-plain, test-strand, test-left}
 use Rattle.ring.proofs.keys.is_key.Statement.{statement}
 use Rattle.ring.proofs.keys.is_key.Tie as tie

@@ -5,7 +5,8 @@ use Rattle.ring.specs.Strands.{markedOn}
 use Rattle.ring.specs.Answers.{markedAs}
 use lib.ListN.{length}
 use mathlib.Core.Path.{sym, ap, _∙_}
-use Rattle.ring.proofs.Taken.{not-taken, taken-permitted}
+use Rattle.ring.proofs.Judging.{not-taken}
+use Rattle.ring.proofs.Exactly.{taken-permitted}
 use Rattle.ring.proofs.Marks.{marked-refused, marked-plain, marked-stranded}
 use Rattle.ring.proofs.keys.mark.Statement.{statement}
 use Rattle.ring.proofs.keys.mark.Tie as tie

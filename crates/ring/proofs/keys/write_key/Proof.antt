@@ -10,7 +10,7 @@ use Rattle.ring.specs.declared.judge.Verdict.the-variants.{Taken}
 use Rattle.ring.specs.declared.keys.Strands.{Strands}
 use Rattle.ring.specs.Judging.{verdict}
 use Rattle.ring.specs.Answers.{keyVerdict}
-use Rattle.ring.proofs.Taken.{not-taken}
+use Rattle.ring.proofs.Judging.{not-taken}
 use Rattle.ring.proofs.Keyed.{key-permitted, first-fits, second-fits, keyed-refused, keyed-plain, keyed-stranded}
 use Rattle.ring.proofs.keys.write_key.Statement.{statement}
 use Rattle.ring.proofs.keys.write_key.Tie as tie

@@ -2,8 +2,8 @@
 -- Assumes nothing.
 use mathlib.Core.Path.{sym, _∙_}
 use native.Mathlib.Omega.{arith}
-use Rattle.ring.proofs.Judging.{refused}
-use Rattle.ring.proofs.Exactly.{taken-fits}
+use Rattle.ring.proofs.Judging.{not-taken}
+use Rattle.ring.proofs.Exactly.{taken-permitted}
 use borrow.Author.Needs.{needs}
 use Rattle.ring.proofs.periods.repeat.Statement.{statement}
 use Rattle.ring.proofs.periods.repeat.Tie as tie
@@ -23,7 +23,7 @@ place-of-requires c κs = search needs
 returns : tie.Need-returns
 returns c =
     let e = c .before .before .before .judge .ensures in
-    let r = refused (c .before .before .before .judge .result) (c .before .before .match .keys2) in
+    let r = not-taken (c .before .before .before .judge .result) (c .before .before .match .keys2) in
     rw (← e, r) (cc)
 
 slice-aggregate-match-lengths : tie.Need-slice-aggregate-match-lengths
@@ -31,7 +31,7 @@ slice-aggregate-match-lengths c = search needs
 
 match-lengths-requires : tie.Need-match-lengths-requires
 match-lengths-requires c κs =
-    let f = taken-fits _ _ _ (sym (c .before .before .before .judge .ensures) ∙ c .before .enum-told .given .1) in
+    let f = taken-permitted _ _ _ (sym (c .before .before .before .judge .ensures) ∙ c .before .enum-told .given .1) in
     (f .0 .some, omega (arith, f .0 .within), f .0 .within)
 
 slice-aggregate-first-period : tie.Need-slice-aggregate-first-period
@@ -39,7 +39,7 @@ slice-aggregate-first-period c = search needs
 
 first-period-requires : tie.Need-first-period-requires
 first-period-requires c κs =
-    let f = taken-fits _ _ _ (sym (c .before .before .before .before .before .before .judge .ensures) ∙ c .before .before .before .before .enum-told .given .1) in
+    let f = taken-permitted _ _ _ (sym (c .before .before .before .before .before .before .judge .ensures) ∙ c .before .before .before .before .enum-told .given .1) in
     let m = c .before .before .match-lengths .ensures in
     (f .0 .some, f .0 .within, omega (arith, f .0 .within, m .1 .size), m .0)
 

@@ -4,8 +4,8 @@ use mathlib.Core.Path.{sym, _∙_}
 use borrow.Author.Needs.{needs}
 use borrow.Author.Tests.{ltb-false}
 use Rattle.words.proofs.Prefix.{length-startTable}
-use Rattle.ring.proofs.Judging.{refused}
-use Rattle.ring.proofs.Exactly.{taken-fits}
+use Rattle.ring.proofs.Judging.{not-taken}
+use Rattle.ring.proofs.Exactly.{taken-permitted}
 use Rattle.ring.proofs.start_table.starts.Statement.{statement}
 use Rattle.ring.proofs.start_table.starts.Tie as tie
 
@@ -24,12 +24,12 @@ place-of-requires c κs = search needs
 returns : tie.Need-returns
 returns c =
     let e = c .before .before .before .judge .ensures in
-    let r = refused (c .before .before .before .judge .result) (c .before .before .match .keys2) in
+    let r = not-taken (c .before .before .before .judge .result) (c .before .before .match .keys2) in
     (rw (← e) (cc), rw (← e, r))
 
 fill-starts-requires : tie.Need-fill-starts-requires
 fill-starts-requires c κs =
-    let f = taken-fits _ _ _ (sym (c .before .before .before .judge .ensures) ∙ c .before .enum-told .given .1) in
+    let f = taken-permitted _ _ _ (sym (c .before .before .before .judge .ensures) ∙ c .before .enum-told .given .1) in
     (f .0 .some, f .0 .within, ltb-false _ _ (f .1))
 
 same-length : tie.Need-same-length

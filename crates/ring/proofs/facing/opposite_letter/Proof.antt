@@ -1,4 +1,4 @@
--- `ring::strand::opposite_letter` meets its contract: the table's rule is one test that antt computes over its 256 entries.
+-- `ring::facing::opposite_letter` meets its contract: the table's rule is one test that antt computes over its 256 entries.
 -- Assumes nothing.
 use borrow.Author.Needs.{needs}
 use mathlib.Core.Path.{_≡_, refl}
@@ -11,8 +11,8 @@ use lib.ListN.{getD}
 use Rattle.words.specs.Search.{every}
 use Rattle.words.specs.Kind.{facing}
 use Rattle.words.proofs.Search.{every-at}
-use Rattle.ring.proofs.strand.opposite_letter.Statement.{statement}
-use Rattle.ring.proofs.strand.opposite_letter.Tie as tie
+use Rattle.ring.proofs.facing.opposite_letter.Statement.{statement}
+use Rattle.ring.proofs.facing.opposite_letter.Tie as tie
 
 -- the table of the source
 facings : List ℕ

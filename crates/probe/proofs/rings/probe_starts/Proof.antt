@@ -1,0 +1,28 @@
+-- `probe::rings::probe_starts` meets its contract.
+-- Assumes nothing.
+use borrow.Author.Needs.{needs}
+use Rattle.probe.proofs.rings.probe_starts.Statement.{statement}
+use Rattle.probe.proofs.rings.probe_starts.Tie as tie
+
+starts-requires : tie.Need-starts-requires
+starts-requires c κs = search needs
+
+slice-aggregate-tell : tie.Need-slice-aggregate-tell
+slice-aggregate-tell c = search needs
+
+tell-requires : tie.Need-tell-requires
+tell-requires c κs = search needs
+
+same-length : tie.Need-same-length
+same-length c = search needs
+
+same-length-2 : tie.Need-same-length-2
+same-length-2 c = search needs
+
+returns : tie.Need-returns
+returns c = (cc, (cc, cc))
+
+pub probe-starts-spec : {M : Type 1} → statement M
+probe-starts-spec =
+    tie.close
+    (tie.spec starts-requires slice-aggregate-tell tell-requires same-length same-length-2 returns)

@@ -1,0 +1,17 @@
+//! The second program: every answer of the library computed again, from the definitions and by other methods, and the
+//! library's C functions called beside it.
+
+pub mod cases;
+pub mod comparison;
+pub mod duels;
+pub mod facts;
+pub mod keys;
+pub mod lent;
+pub mod long;
+pub mod plain;
+pub mod probe;
+pub mod report;
+pub mod rules;
+pub mod sheet_comparison;
+pub mod sheets;
+pub mod words;

@@ -1,0 +1,139 @@
+//! The proved library through its C functions: a slice is a pointer and then a length.
+use crate::lent::Lent;
+
+mod c {
+    extern "C" {
+        pub fn probe_check(kind: u8, ring: *const u8, n: usize, values: *mut u64, v: usize) -> u8;
+        pub fn probe_factors(kind: u8, ring: *const u8, n: usize, table: *mut u16, t: usize, values: *mut u64, v: usize) -> u8;
+        pub fn probe_suffixes(kind: u8, ring: *const u8, n: usize, table: *mut u16, t: usize, values: *mut u64, v: usize) -> u8;
+        pub fn probe_starts(kind: u8, ring: *const u8, n: usize, table: *mut u16, t: usize, values: *mut u64, v: usize) -> u8;
+        pub fn probe_duel(kind: u8, ring: *const u8, n: usize, values: *mut u64, v: usize) -> u8;
+        pub fn probe_repeat(kind: u8, ring: *const u8, n: usize, values: *mut u64, v: usize) -> u8;
+        pub fn probe_mark(kind: u8, ring: *const u8, n: usize, values: *mut u64, v: usize) -> u8;
+        pub fn probe_write_key(
+            kind: u8,
+            ring: *const u8,
+            n: usize,
+            first: *mut u8,
+            f: usize,
+            second: *mut u8,
+            s: usize,
+            values: *mut u64,
+            v: usize,
+        ) -> u8;
+        pub fn probe_key(
+            kind: u8,
+            ring: *const u8,
+            n: usize,
+            first: *mut u8,
+            f: usize,
+            second: *mut u8,
+            s: usize,
+            values: *mut u64,
+            v: usize,
+        ) -> u8;
+        pub fn probe_write_reading(
+            strand: u8,
+            start: usize,
+            letters: *const u8,
+            n: usize,
+            room: *mut u8,
+            r: usize,
+            values: *mut u64,
+            v: usize,
+        ) -> u8;
+        pub fn probe_is_key(kind: u8, letters: *const u8, n: usize, start: usize, strand: u8) -> u8;
+        pub fn probe_compare(kind: u8, first: *const u8, f: usize, second: *const u8, s: usize, values: *mut u64, v: usize)
+            -> u8;
+        pub fn probe_sheet_write(kind: u8, ring: *const u8, n: usize, room: *mut u8, r: usize, values: *mut u64, v: usize) -> u8;
+        pub fn probe_sheet_read(bytes: *const u8, n: usize, values: *mut u64, v: usize) -> u8;
+        pub fn probe_sheet_letters(bytes: *const u8, n: usize, values: *mut u64, v: usize) -> u8;
+        pub fn probe_sheet_original(bytes: *const u8, n: usize, room: *mut u8, r: usize, values: *mut u64, v: usize) -> u8;
+        pub fn probe_sheet_walk(book: *const u8, n: usize, values: *mut u64, v: usize) -> u8;
+    }
+}
+
+type Bytes = Lent<u8>;
+type Table = Lent<u16>;
+type Values = Lent<u64>;
+
+// Each slice is a live vector's part of the length given with it, and no two lent for writing overlap.
+
+pub fn check(kind: u8, ring: &Bytes, values: &mut Values) -> u8 {
+    unsafe { c::probe_check(kind, ring.front(), ring.size(), values.front_mut(), values.size()) }
+}
+
+pub fn factors(kind: u8, ring: &Bytes, table: &mut Table, values: &mut Values) -> u8 {
+    let (t, v) = (table.size(), values.size());
+    unsafe { c::probe_factors(kind, ring.front(), ring.size(), table.front_mut(), t, values.front_mut(), v) }
+}
+
+pub fn suffixes(kind: u8, ring: &Bytes, table: &mut Table, values: &mut Values) -> u8 {
+    let (t, v) = (table.size(), values.size());
+    unsafe { c::probe_suffixes(kind, ring.front(), ring.size(), table.front_mut(), t, values.front_mut(), v) }
+}
+
+pub fn starts(kind: u8, ring: &Bytes, table: &mut Table, values: &mut Values) -> u8 {
+    let (t, v) = (table.size(), values.size());
+    unsafe { c::probe_starts(kind, ring.front(), ring.size(), table.front_mut(), t, values.front_mut(), v) }
+}
+
+pub fn duel(kind: u8, ring: &Bytes, values: &mut Values) -> u8 {
+    unsafe { c::probe_duel(kind, ring.front(), ring.size(), values.front_mut(), values.size()) }
+}
+
+pub fn repeat(kind: u8, ring: &Bytes, values: &mut Values) -> u8 {
+    unsafe { c::probe_repeat(kind, ring.front(), ring.size(), values.front_mut(), values.size()) }
+}
+
+pub fn mark(kind: u8, ring: &Bytes, values: &mut Values) -> u8 {
+    unsafe { c::probe_mark(kind, ring.front(), ring.size(), values.front_mut(), values.size()) }
+}
+
+pub fn write_key(kind: u8, ring: &Bytes, first: &mut Bytes, second: &mut Bytes, values: &mut Values) -> u8 {
+    let (n, f, s, v) = (ring.size(), first.size(), second.size(), values.size());
+    let (first, second, values) = (first.front_mut(), second.front_mut(), values.front_mut());
+    unsafe { c::probe_write_key(kind, ring.front(), n, first, f, second, s, values, v) }
+}
+
+pub fn key(kind: u8, ring: &Bytes, first: &mut Bytes, second: &mut Bytes, values: &mut Values) -> u8 {
+    let (n, f, s, v) = (ring.size(), first.size(), second.size(), values.size());
+    let (first, second, values) = (first.front_mut(), second.front_mut(), values.front_mut());
+    unsafe { c::probe_key(kind, ring.front(), n, first, f, second, s, values, v) }
+}
+
+pub fn write_reading(strand: u8, start: usize, letters: &Bytes, room: &mut Bytes, values: &mut Values) -> u8 {
+    let (n, r, v) = (letters.size(), room.size(), values.size());
+    unsafe { c::probe_write_reading(strand, start, letters.front(), n, room.front_mut(), r, values.front_mut(), v) }
+}
+
+pub fn is_key(kind: u8, letters: &Bytes, start: usize, strand: u8) -> u8 {
+    unsafe { c::probe_is_key(kind, letters.front(), letters.size(), start, strand) }
+}
+
+pub fn compare(kind: u8, first: &Bytes, second: &Bytes, values: &mut Values) -> u8 {
+    let (f, s, v) = (first.size(), second.size(), values.size());
+    unsafe { c::probe_compare(kind, first.front(), f, second.front(), s, values.front_mut(), v) }
+}
+
+pub fn sheet_write(kind: u8, ring: &Bytes, room: &mut Bytes, values: &mut Values) -> u8 {
+    let (n, r, v) = (ring.size(), room.size(), values.size());
+    unsafe { c::probe_sheet_write(kind, ring.front(), n, room.front_mut(), r, values.front_mut(), v) }
+}
+
+pub fn sheet_read(bytes: &Bytes, values: &mut Values) -> u8 {
+    unsafe { c::probe_sheet_read(bytes.front(), bytes.size(), values.front_mut(), values.size()) }
+}
+
+pub fn sheet_letters(bytes: &Bytes, values: &mut Values) -> u8 {
+    unsafe { c::probe_sheet_letters(bytes.front(), bytes.size(), values.front_mut(), values.size()) }
+}
+
+pub fn sheet_original(bytes: &Bytes, room: &mut Bytes, values: &mut Values) -> u8 {
+    let (n, r, v) = (bytes.size(), room.size(), values.size());
+    unsafe { c::probe_sheet_original(bytes.front(), n, room.front_mut(), r, values.front_mut(), v) }
+}
+
+pub fn sheet_walk(book: &Bytes, values: &mut Values) -> u8 {
+    unsafe { c::probe_sheet_walk(book.front(), book.size(), values.front_mut(), values.size()) }
+}

@@ -1,0 +1,182 @@
+// One call of `ring` each, on a short ring: its answer, and what it was lent with an entry before and one behind.
+use super::answers;
+use super::show::FRESH;
+use super::show::letters;
+use super::show::line;
+use super::show::table;
+use super::show::text;
+
+pub fn check(ring: &[u8], kind: u8) {
+    text(b"check");
+    answers::checked(ring::check(ring, kind));
+    line();
+}
+
+pub fn factors(ring: &[u8], kind: u8, size: usize) {
+    if 30 < size {
+        return;
+    }
+    let mut lent = [FRESH; 32];
+    let end = size + 1;
+    let all = size + 2;
+    let f = ring::factors(ring, kind, &mut lent[1..end]);
+    text(b"factors");
+    answers::factored(f);
+    text(b" :");
+    table(&lent[..all]);
+    line();
+}
+
+pub fn suffixes(ring: &[u8], kind: u8, size: usize) {
+    if 30 < size {
+        return;
+    }
+    let mut lent = [FRESH; 32];
+    let end = size + 1;
+    let all = size + 2;
+    let f = ring::suffixes(ring, kind, &mut lent[1..end]);
+    text(b"suffixes");
+    answers::filled(f);
+    text(b" :");
+    table(&lent[..all]);
+    line();
+}
+
+pub fn starts(ring: &[u8], kind: u8, size: usize) {
+    if 30 < size {
+        return;
+    }
+    let mut lent = [FRESH; 32];
+    let end = size + 1;
+    let all = size + 2;
+    let f = ring::starts(ring, kind, &mut lent[1..end]);
+    text(b"starts");
+    answers::filled(f);
+    text(b" :");
+    table(&lent[..all]);
+    line();
+}
+
+pub fn duel(ring: &[u8], kind: u8) {
+    text(b"duel");
+    answers::fought(ring::duel(ring, kind));
+    line();
+}
+
+pub fn repeat(ring: &[u8], kind: u8) {
+    text(b"repeat");
+    answers::repeated(ring::repeat(ring, kind));
+    line();
+}
+
+pub fn mark(ring: &[u8], kind: u8) {
+    text(b"mark");
+    answers::marked(ring::mark(ring, kind));
+    line();
+}
+
+pub fn write_key(ring: &[u8], kind: u8, one: usize, two: usize) {
+    if 30 < one {
+        return;
+    }
+    if 30 < two {
+        return;
+    }
+    let mut first = [b'.'; 32];
+    let mut second = [b'.'; 32];
+    let e = one + 1;
+    let f = two + 1;
+    let m = ring::write_key(ring, kind, &mut first[1..e], &mut second[1..f]);
+    text(b"write_key");
+    answers::marked(m);
+    text(b" :");
+    rooms(&first, one, &second, two);
+}
+
+// Two rooms, each with a byte before the lent ones and one behind.
+fn rooms(first: &[u8; 32], one: usize, second: &[u8; 32], two: usize) {
+    if 30 < one {
+        return;
+    }
+    if 30 < two {
+        return;
+    }
+    let e = one + 2;
+    let f = two + 2;
+    letters(&first[..e]);
+    letters(&second[..f]);
+    line();
+}
+
+// A star on the first letter of a part.
+fn star(part: &mut [u8]) {
+    if 0 < part.len() {
+        part[0] = b'*';
+    }
+}
+
+// The part that comes back, and the two rooms after a star was put on the part's first letter.
+pub fn key(ring: &[u8], kind: u8, one: usize, two: usize) {
+    if 30 < one {
+        return;
+    }
+    if 30 < two {
+        return;
+    }
+    let mut first = [b'.'; 32];
+    let mut second = [b'.'; 32];
+    let e = one + 1;
+    let f = two + 1;
+    let part = ring::key(ring, kind, &mut first[1..e], &mut second[1..f]);
+    text(b"key :");
+    letters(part);
+    star(part);
+    text(b" :");
+    rooms(&first, one, &second, two);
+}
+
+pub fn compare(kind: u8, first: &[u8], second: &[u8]) {
+    text(b"compare");
+    letters(first);
+    letters(second);
+    text(b" :");
+    answers::compared(ring::compare(kind, first, second));
+    line();
+}
+
+// The ring against its own turns by one letter, of its strand and of the opposite one.
+pub fn turned(ring: &[u8], kind: u8, strand: u8) {
+    let n = ring.len();
+    if 32 < n {
+        return;
+    }
+    let mut room = [0u8; 32];
+    ring::write_reading(ring, strand, 1, &mut room);
+    compare(kind, ring, &room[..n]);
+}
+
+// Every call on one ring, with tables and rooms of just n entries.
+pub fn every(ring: &[u8], kind: u8) {
+    let n = ring.len();
+    text(b"RING");
+    letters(ring);
+    text(b" kind");
+    super::show::small(kind);
+    line();
+    check(ring, kind);
+    factors(ring, kind, n);
+    suffixes(ring, kind, n);
+    starts(ring, kind, n);
+    duel(ring, kind);
+    repeat(ring, kind);
+    keys(ring, kind, n);
+}
+
+fn keys(ring: &[u8], kind: u8, n: usize) {
+    mark(ring, kind);
+    write_key(ring, kind, n, n);
+    key(ring, kind, n, n);
+    compare(kind, ring, ring);
+    turned(ring, kind, 0);
+    turned(ring, kind, 1);
+}

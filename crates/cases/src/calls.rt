@@ -1,6 +1,7 @@
 // One call of `ring` each, on a short ring: its answer, and what it was lent with an entry before and one behind.
 use super::answers;
 use super::show::FRESH;
+use super::show::front;
 use super::show::letters;
 use super::show::line;
 use super::show::table;
@@ -90,21 +91,8 @@ pub fn write_key(ring: &[u8], kind: u8, one: usize, two: usize) {
     text(b"write_key");
     answers::marked(m);
     text(b" :");
-    rooms(&first, one, &second, two);
-}
-
-// Two rooms, each with a byte before the lent ones and one behind.
-fn rooms(first: &[u8; 32], one: usize, second: &[u8; 32], two: usize) {
-    if 30 < one {
-        return;
-    }
-    if 30 < two {
-        return;
-    }
-    let e = one + 2;
-    let f = two + 2;
-    letters(&first[..e]);
-    letters(&second[..f]);
+    front(&first, one + 2);
+    front(&second, two + 2);
     line();
 }
 
@@ -132,7 +120,9 @@ pub fn key(ring: &[u8], kind: u8, one: usize, two: usize) {
     letters(part);
     star(part);
     text(b" :");
-    rooms(&first, one, &second, two);
+    front(&first, one + 2);
+    front(&second, two + 2);
+    line();
 }
 
 pub fn compare(kind: u8, first: &[u8], second: &[u8]) {

@@ -24,7 +24,8 @@ fn raised(bytes: &mut [u8], at: usize) {
     if bytes.len() <= at {
         return;
     }
-    let w = damaged(bytes, at, std::num::wrapping_add_u8(bytes[at], 1));
+    let old = bytes[at];
+    let w = damaged(bytes, at, std::num::wrapping_add_u8(old, 1));
     super::show::small(w.number);
     number(w.place);
     bar();
@@ -68,7 +69,7 @@ fn tally(bytes: &mut [u8], at: usize) -> Counts {
     counted(c, damaged(bytes, at, 255).number)
 }
 
-fn counts(of: [usize; 8]) {
+fn listed(of: [usize; 8]) {
     let mut i = 0;
     while i < 8 {
         number(of[i]);
@@ -86,7 +87,7 @@ pub fn tallies(bytes: &mut [u8]) {
         text(b" :");
         let c = tally(bytes, i);
         let of = c.of;
-        counts(of);
+        listed(of);
         line();
         i += 1;
     }

@@ -65,6 +65,13 @@ pub fn letters(s: &[u8]) {
     }
 }
 
+// The first `n` letters of a room.
+pub fn front(room: &[u8], n: usize) {
+    if n <= room.len() {
+        letters(&room[..n]);
+    }
+}
+
 // A space before each byte, as two digits.
 pub fn hex(s: &[u8]) {
     let n = s.len();

@@ -27,7 +27,7 @@ fn walk(book: &[u8], size: usize) {
     if book.len() < size {
         return;
     }
-    walked(sheet::walk(&book[..size]));
+    walked(sheet::walk(&book[0..size]));
     bar();
 }
 
@@ -51,35 +51,9 @@ fn cut(book: &mut [u8], size: usize) {
     if book.len() < size {
         return;
     }
-    damage::each(&mut book[..size]);
-    rests(&book[..size]);
-    ends(&book[..size]);
-}
-
-// The book without its first 0, 1, .. bytes.
-fn rests(book: &[u8]) {
-    text(b"without its first bytes :");
-    let n = book.len();
-    let mut i = 0;
-    while i < n {
-        walked(sheet::walk(&book[i..]));
-        bar();
-        i += 1;
-    }
-    line();
-}
-
-// The first 0, 1, .. bytes of the book.
-fn ends(book: &[u8]) {
-    text(b"its first bytes :");
-    let n = book.len();
-    let mut i = 0;
-    while i < n {
-        walked(sheet::walk(&book[..i]));
-        bar();
-        i += 1;
-    }
-    line();
+    damage::each(&mut book[0..size]);
+    damage::fronts(&book[0..size]);
+    damage::backs(&book[0..size]);
 }
 
 // A book with bytes left over in front of two sheets.

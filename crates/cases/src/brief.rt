@@ -2,6 +2,7 @@
 // was lent and ! where it was written.
 use super::answers;
 use super::answers::bar;
+use super::lend;
 use super::show::FRESH;
 use super::show::line;
 use super::show::number;
@@ -42,45 +43,33 @@ fn kept(b: bool) {
 }
 
 fn factors(ring: &[u8], kind: u8, size: usize) {
-    if 8200 < size {
-        return;
-    }
-    let mut lent = [FRESH; 8200];
-    let f = ring::factors(ring, kind, &mut lent[..size]);
+    let mut lent = [FRESH; 8204];
+    let f = lend::factors(ring, kind, &mut lent, size);
     bar();
     answers::factored(f);
     kept(fresh(&lent));
 }
 
 fn suffixes(ring: &[u8], kind: u8, size: usize) {
-    if 8200 < size {
-        return;
-    }
-    let mut lent = [FRESH; 8200];
-    let f = ring::suffixes(ring, kind, &mut lent[..size]);
+    let mut lent = [FRESH; 8204];
+    let f = lend::suffixes(ring, kind, &mut lent, size);
     bar();
     answers::filled(f);
     kept(fresh(&lent));
 }
 
 fn starts(ring: &[u8], kind: u8, size: usize) {
-    if 8200 < size {
-        return;
-    }
-    let mut lent = [FRESH; 8200];
-    let f = ring::starts(ring, kind, &mut lent[..size]);
+    let mut lent = [FRESH; 8204];
+    let f = lend::starts(ring, kind, &mut lent, size);
     bar();
     answers::filled(f);
     kept(fresh(&lent));
 }
 
 fn write_key(ring: &[u8], kind: u8, size: usize) {
-    if 8200 < size {
-        return;
-    }
-    let mut first = [b'.'; 8200];
-    let mut second = [b'.'; 8200];
-    let m = ring::write_key(ring, kind, &mut first[..size], &mut second[..size]);
+    let mut first = [b'.'; 8204];
+    let mut second = [b'.'; 8204];
+    let m = lend::write_key(ring, kind, &mut first, size, &mut second, size);
     bar();
     answers::marked(m);
     kept(blank(&first));
@@ -88,15 +77,24 @@ fn write_key(ring: &[u8], kind: u8, size: usize) {
 }
 
 // How many letters the key's part has.
-fn key(ring: &[u8], kind: u8, size: usize) {
-    if 8200 < size {
-        return;
+fn key_size(ring: &[u8], kind: u8, first: &mut [u8], second: &mut [u8], size: usize) -> usize {
+    if first.len() <= size {
+        return 0;
     }
-    let mut first = [b'.'; 8200];
-    let mut second = [b'.'; 8200];
-    let part = ring::key(ring, kind, &mut first[..size], &mut second[..size]);
+    if second.len() <= size {
+        return 0;
+    }
+    let end = size + 1;
+    let part = ring::key(ring, kind, &mut first[1..end], &mut second[1..end]);
+    part.len()
+}
+
+fn key(ring: &[u8], kind: u8, size: usize) {
+    let mut first = [b'.'; 8204];
+    let mut second = [b'.'; 8204];
+    let n = key_size(ring, kind, &mut first, &mut second, size);
     bar();
-    number(part.len());
+    number(n);
     kept(blank(&first));
     kept(blank(&second));
 }
@@ -106,9 +104,8 @@ fn write(ring: &[u8], kind: u8, size: usize) {
     if 8200 < size {
         return;
     }
-    let mut room = [b'.'; 8208];
-    let all = size + 8;
-    let m = sheet::write(ring, kind, &mut room[..all]);
+    let mut room = [b'.'; 8212];
+    let m = lend::write(ring, kind, &mut room, size + 8);
     bar();
     answers::marked(m);
     kept(blank(&room));

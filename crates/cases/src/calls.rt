@@ -1,10 +1,11 @@
 // One call of `ring` each, on a short ring: its answer, and what it was lent with an entry before and one behind.
 use super::answers;
+use super::lend;
 use super::show::FRESH;
+use super::show::entries;
 use super::show::front;
 use super::show::letters;
 use super::show::line;
-use super::show::table;
 use super::show::text;
 
 pub fn check(ring: &[u8], kind: u8) {
@@ -18,13 +19,11 @@ pub fn factors(ring: &[u8], kind: u8, size: usize) {
         return;
     }
     let mut lent = [FRESH; 32];
-    let end = size + 1;
-    let all = size + 2;
-    let f = ring::factors(ring, kind, &mut lent[1..end]);
+    let f = lend::factors(ring, kind, &mut lent, size);
     text(b"factors");
     answers::factored(f);
     text(b" :");
-    table(&lent[..all]);
+    entries(&lent, size + 2);
     line();
 }
 
@@ -33,13 +32,11 @@ pub fn suffixes(ring: &[u8], kind: u8, size: usize) {
         return;
     }
     let mut lent = [FRESH; 32];
-    let end = size + 1;
-    let all = size + 2;
-    let f = ring::suffixes(ring, kind, &mut lent[1..end]);
+    let f = lend::suffixes(ring, kind, &mut lent, size);
     text(b"suffixes");
     answers::filled(f);
     text(b" :");
-    table(&lent[..all]);
+    entries(&lent, size + 2);
     line();
 }
 
@@ -48,13 +45,11 @@ pub fn starts(ring: &[u8], kind: u8, size: usize) {
         return;
     }
     let mut lent = [FRESH; 32];
-    let end = size + 1;
-    let all = size + 2;
-    let f = ring::starts(ring, kind, &mut lent[1..end]);
+    let f = lend::starts(ring, kind, &mut lent, size);
     text(b"starts");
     answers::filled(f);
     text(b" :");
-    table(&lent[..all]);
+    entries(&lent, size + 2);
     line();
 }
 
@@ -85,9 +80,7 @@ pub fn write_key(ring: &[u8], kind: u8, one: usize, two: usize) {
     }
     let mut first = [b'.'; 32];
     let mut second = [b'.'; 32];
-    let e = one + 1;
-    let f = two + 1;
-    let m = ring::write_key(ring, kind, &mut first[1..e], &mut second[1..f]);
+    let m = lend::write_key(ring, kind, &mut first, one, &mut second, two);
     text(b"write_key");
     answers::marked(m);
     text(b" :");
@@ -103,6 +96,21 @@ fn star(part: &mut [u8]) {
     }
 }
 
+// Prints the part that comes back, and puts a star on its first letter.
+fn starred(ring: &[u8], kind: u8, first: &mut [u8], one: usize, second: &mut [u8], two: usize) {
+    if first.len() <= one {
+        return;
+    }
+    if second.len() <= two {
+        return;
+    }
+    let e = one + 1;
+    let f = two + 1;
+    let part = ring::key(ring, kind, &mut first[1..e], &mut second[1..f]);
+    letters(part);
+    star(part);
+}
+
 // The part that comes back, and the two rooms after a star was put on the part's first letter.
 pub fn key(ring: &[u8], kind: u8, one: usize, two: usize) {
     if 30 < one {
@@ -113,12 +121,8 @@ pub fn key(ring: &[u8], kind: u8, one: usize, two: usize) {
     }
     let mut first = [b'.'; 32];
     let mut second = [b'.'; 32];
-    let e = one + 1;
-    let f = two + 1;
-    let part = ring::key(ring, kind, &mut first[1..e], &mut second[1..f]);
     text(b"key :");
-    letters(part);
-    star(part);
+    starred(ring, kind, &mut first, one, &mut second, two);
     text(b" :");
     front(&first, one + 2);
     front(&second, two + 2);
@@ -142,7 +146,7 @@ pub fn turned(ring: &[u8], kind: u8, strand: u8) {
     }
     let mut room = [0u8; 32];
     ring::write_reading(ring, strand, 1, &mut room);
-    compare(kind, ring, &room[..n]);
+    compare(kind, ring, &room[0..n]);
 }
 
 // Every call on one ring, with tables and rooms of just n entries.

@@ -93,34 +93,36 @@ pub fn tallies(bytes: &mut [u8]) {
     }
 }
 
-// A sheet read: number and place.
-fn brief(bytes: &[u8]) {
+// Bytes read as a sheet and walked as a book: number and place, and the sheets walked.
+fn both(bytes: &[u8]) {
     let e = sheet::read(bytes);
     let m = e.marked;
     super::show::small(m.number);
     number(m.place);
+    text(b",");
+    answers::walked(sheet::walk(bytes));
     bar();
 }
 
-// What is left of a sheet without its first 0, 1, .. bytes.
+// What is left without the first 0, 1, .. bytes.
 pub fn fronts(bytes: &[u8]) {
     text(b"without its first bytes :");
     let n = bytes.len();
     let mut i = 0;
     while i < n {
-        brief(&bytes[i..]);
+        both(&bytes[i..]);
         i += 1;
     }
     line();
 }
 
-// The first 0, 1, .. bytes of a sheet.
+// The first 0, 1, .. bytes.
 pub fn backs(bytes: &[u8]) {
     text(b"its first bytes :");
     let n = bytes.len();
     let mut i = 0;
     while i < n {
-        brief(&bytes[..i]);
+        both(&bytes[0..i]);
         i += 1;
     }
     line();
@@ -140,10 +142,10 @@ fn sheet_of(ring: &[u8], kind: u8) {
     super::show::small(kind);
     line();
     sheet::write(ring, kind, &mut room);
-    each(&mut room[..size]);
-    fronts(&room[..size]);
-    backs(&room[..size]);
-    tallies(&mut room[..size]);
+    each(&mut room[0..size]);
+    fronts(&room[0..size]);
+    backs(&room[0..size]);
+    tallies(&mut room[0..size]);
 }
 
 pub fn sheets() {

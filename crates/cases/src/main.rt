@@ -7,6 +7,7 @@ mod comparison;
 mod damage;
 mod edges;
 mod examples;
+mod lend;
 mod readings;
 mod reports;
 mod sheets;

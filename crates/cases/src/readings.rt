@@ -1,5 +1,7 @@
 // Readings written at every start, and letters judged as a key.
 use super::answers::filled;
+use super::lend;
+use super::show::front;
 use super::show::letters;
 use super::show::line;
 use super::show::number;
@@ -13,11 +15,9 @@ fn reading(ring: &[u8], strand: u8, start: usize, size: usize) {
         return;
     }
     let mut room = [b'.'; 32];
-    let end = size + 1;
-    let all = size + 2;
-    let f = ring::write_reading(ring, strand, start, &mut room[1..end]);
+    let f = lend::write_reading(ring, strand, start, &mut room, size);
     filled(f);
-    letters(&room[..all]);
+    front(&room, size + 2);
 }
 
 // The readings of a strand at the starts 0 to n + 1, in a room of n and one byte more.

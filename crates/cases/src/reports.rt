@@ -1,16 +1,11 @@
 // The report that `ringline` prints, over many inputs.
+use super::show::front;
 use super::show::letters;
 use super::show::line;
 use super::show::number;
-use super::show::sums;
+use super::show::plain;
+use super::show::summed;
 use super::show::text;
-
-// The first bytes of a room.
-fn print(room: &[u8], size: usize) {
-    if size <= room.len() {
-        text(&room[..size]);
-    }
-}
 
 // A short report whole.
 fn whole(input: &[u8]) {
@@ -21,14 +16,7 @@ fn whole(input: &[u8]) {
     let size = report::report(input, &mut room);
     number(size);
     line();
-    print(&room, size);
-}
-
-// The two sums over the first bytes of a room.
-fn summed(room: &[u8], size: usize) {
-    if size <= room.len() {
-        sums(&room[..size]);
-    }
+    plain(&room, size);
 }
 
 // A long report: its length, its two sums and its first 20 bytes.
@@ -40,7 +28,7 @@ fn long(label: &[u8], input: &[u8]) {
     number(size);
     summed(&room, size);
     text(b" :");
-    letters(&room[..20]);
+    front(&room, 20);
     line();
 }
 
@@ -76,7 +64,7 @@ fn filled(label: &[u8], n: usize, feeds: usize) {
     let all = n + feeds;
     input[n] = 10;
     input[n + 1] = 10;
-    long(label, &input[..all]);
+    long(label, &input[0..all]);
 }
 
 // Long inputs.
@@ -97,6 +85,6 @@ pub fn small_room() {
     let size = report::report(b"GATTACA", &mut room);
     text(b"REPORT to a room of 159,999 bytes :");
     number(size);
-    letters(&room[..20]);
+    front(&room, 20);
     line();
 }

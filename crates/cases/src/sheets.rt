@@ -3,7 +3,9 @@ use super::answers;
 use super::answers::bar;
 use super::answers::filled;
 use super::answers::marked;
-use super::show::hex;
+use super::lend;
+use super::show::bytes;
+use super::show::front;
 use super::show::letters;
 use super::show::line;
 use super::show::number;
@@ -16,13 +18,11 @@ fn original(bytes: &[u8], size: usize) {
         return;
     }
     let mut room = [b'.'; 40];
-    let end = size + 1;
-    let all = size + 2;
-    let f = sheet::original(bytes, &mut room[1..end]);
+    let f = lend::original(bytes, &mut room, size);
     text(b"original");
     filled(f);
     text(b" :");
-    letters(&room[..all]);
+    front(&room, size + 2);
     line();
 }
 
@@ -45,9 +45,7 @@ pub fn written(ring: &[u8], kind: u8, size: usize) {
         return;
     }
     let mut room = [b'.'; 40];
-    let end = size + 1;
-    let all = size + 2;
-    let m = sheet::write(ring, kind, &mut room[1..end]);
+    let m = lend::write(ring, kind, &mut room, size);
     text(b"SHEET of");
     letters(ring);
     text(b" kind");
@@ -57,7 +55,7 @@ pub fn written(ring: &[u8], kind: u8, size: usize) {
     text(b" :");
     marked(m);
     text(b" :");
-    hex(&room[..all]);
+    bytes(&room, size + 2);
     line();
 }
 
@@ -70,8 +68,8 @@ fn deposited(ring: &[u8], kind: u8) {
     let size = n + 8;
     written(ring, kind, size);
     let mut room = [0u8; 40];
-    let m = sheet::write(ring, kind, &mut room);
-    opened(&room[..size], n);
+    sheet::write(ring, kind, &mut room);
+    opened(&room[0..size], n);
 }
 
 // Written and read back, of both kinds.

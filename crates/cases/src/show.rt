@@ -68,18 +68,25 @@ pub fn letters(s: &[u8]) {
 // The first `n` letters of a room.
 pub fn front(room: &[u8], n: usize) {
     if n <= room.len() {
-        letters(&room[..n]);
+        letters(&room[0..n]);
     }
 }
 
 // A space before each byte, as two digits.
-pub fn hex(s: &[u8]) {
+fn hex(s: &[u8]) {
     let n = s.len();
     let mut i = 0;
     while i < n {
         text(b" ");
         digits(s[i]);
         i += 1;
+    }
+}
+
+// The first `n` bytes of a room, in digits.
+pub fn bytes(room: &[u8], n: usize) {
+    if n <= room.len() {
+        hex(&room[0..n]);
     }
 }
 
@@ -92,7 +99,7 @@ fn entry(v: u16) {
     number(v as usize);
 }
 
-pub fn table(t: &[u16]) {
+fn table(t: &[u16]) {
     let n = t.len();
     let mut i = 0;
     while i < n {
@@ -101,8 +108,15 @@ pub fn table(t: &[u16]) {
     }
 }
 
+// The first `n` entries of a table.
+pub fn entries(t: &[u16], n: usize) {
+    if n <= t.len() {
+        table(&t[0..n]);
+    }
+}
+
 // Two sums over bytes: of the bytes, and of the first sum after each byte.
-pub fn sums(s: &[u8]) {
+fn sums(s: &[u8]) {
     let n = s.len();
     let mut a: u64 = 0;
     let mut b: u64 = 0;
@@ -116,6 +130,20 @@ pub fn sums(s: &[u8]) {
     io::print_decimal(STDOUT_FILENO, a);
     text(b" ");
     io::print_decimal(STDOUT_FILENO, b);
+}
+
+// The two sums over the first `n` bytes of a room.
+pub fn summed(room: &[u8], n: usize) {
+    if n <= room.len() {
+        sums(&room[0..n]);
+    }
+}
+
+// The first `n` bytes of a room as they are.
+pub fn plain(room: &[u8], n: usize) {
+    if n <= room.len() {
+        text(&room[0..n]);
+    }
 }
 
 fn wide(x: u8) -> u64 {

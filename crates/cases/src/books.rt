@@ -37,6 +37,9 @@ pub fn three() {
     let a = put(&mut book, 0, b"GATTACA", 1);
     let b = put(&mut book, a, b"\xffRG", 0);
     let c = put(&mut book, b, b"A", 1);
+    if 60 < c {
+        return;
+    }
     text(b"BOOK of three sheets, of none, one, two and all, and one byte more :");
     walk(&book, 0);
     walk(&book, a);
@@ -44,16 +47,7 @@ pub fn three() {
     walk(&book, c);
     walk(&book, c + 1);
     line();
-    cut(&mut book, c);
-}
-
-fn cut(book: &mut [u8], size: usize) {
-    if book.len() < size {
-        return;
-    }
-    damage::each(&mut book[0..size]);
-    damage::fronts(&book[0..size]);
-    damage::backs(&book[0..size]);
+    damage::cut(&mut book, c);
 }
 
 // A book with bytes left over in front of two sheets.

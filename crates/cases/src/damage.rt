@@ -32,7 +32,7 @@ fn raised(bytes: &mut [u8], at: usize) {
 }
 
 // Every byte one greater in turn: number and place of the walk.
-pub fn each(bytes: &mut [u8]) {
+fn each(bytes: &mut [u8]) {
     text(b"each byte one greater :");
     let n = bytes.len();
     let mut i = 0;
@@ -78,7 +78,7 @@ fn listed(of: [usize; 8]) {
 }
 
 // For each byte: how many of its 256 values give 0, 1, .. 7.
-pub fn tallies(bytes: &mut [u8]) {
+fn tallies(bytes: &mut [u8]) {
     let n = bytes.len();
     let mut i = 0;
     while i < n {
@@ -105,7 +105,7 @@ fn both(bytes: &[u8]) {
 }
 
 // What is left without the first 0, 1, .. bytes.
-pub fn fronts(bytes: &[u8]) {
+fn fronts(bytes: &[u8]) {
     text(b"without its first bytes :");
     let n = bytes.len();
     let mut i = 0;
@@ -117,7 +117,7 @@ pub fn fronts(bytes: &[u8]) {
 }
 
 // The first 0, 1, .. bytes.
-pub fn backs(bytes: &[u8]) {
+fn backs(bytes: &[u8]) {
     text(b"its first bytes :");
     let n = bytes.len();
     let mut i = 0;
@@ -126,6 +126,24 @@ pub fn backs(bytes: &[u8]) {
         i += 1;
     }
     line();
+}
+
+// The first `size` bytes of a room damaged byte by byte, and cut at both ends.
+pub fn cut(room: &mut [u8], size: usize) {
+    if room.len() < size {
+        return;
+    }
+    each(&mut room[0..size]);
+    fronts(&room[0..size]);
+    backs(&room[0..size]);
+}
+
+// Every value of every one of the first `size` bytes of a room.
+fn valued(room: &mut [u8], size: usize) {
+    if room.len() < size {
+        return;
+    }
+    tallies(&mut room[0..size]);
 }
 
 // A sheet damaged and cut in every way.
@@ -142,10 +160,8 @@ fn sheet_of(ring: &[u8], kind: u8) {
     super::show::small(kind);
     line();
     sheet::write(ring, kind, &mut room);
-    each(&mut room[0..size]);
-    fronts(&room[0..size]);
-    backs(&room[0..size]);
-    tallies(&mut room[0..size]);
+    cut(&mut room, size);
+    valued(&mut room, size);
 }
 
 pub fn sheets() {

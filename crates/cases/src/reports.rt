@@ -19,12 +19,15 @@ fn whole(input: &[u8]) {
     plain(&room, size);
 }
 
-// A long report: its length, its two sums and its first 20 bytes.
-fn long(label: &[u8], input: &[u8]) {
+// The report on the first `n` bytes of an input: its length, its two sums and its first 20 bytes.
+fn long(label: &[u8], input: &[u8], n: usize) {
+    if input.len() < n {
+        return;
+    }
     text(label);
     text(b" :");
     let mut room = [b'.'; 160000];
-    let size = report::report(input, &mut room);
+    let size = report::report(&input[0..n], &mut room);
     number(size);
     summed(&room, size);
     text(b" :");
@@ -61,10 +64,9 @@ fn filled(label: &[u8], n: usize, feeds: usize) {
         return;
     }
     let mut input = [b'A'; 8200];
-    let all = n + feeds;
     input[n] = 10;
     input[n + 1] = 10;
-    long(label, &input[0..all]);
+    long(label, &input, n + feeds);
 }
 
 // Long inputs.

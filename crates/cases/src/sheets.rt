@@ -153,7 +153,7 @@ pub fn marks() {
         0,
     );
     given(
-        b"GIVEN N behind C, way back 1",
+        b"GIVEN C behind N, way back 1",
         b"NC\x01\x00\x00\x00\x00\x01RG",
         1,
     );

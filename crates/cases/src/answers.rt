@@ -1,0 +1,77 @@
+// The answers of the calls: the number, the place, and the other fields in the order in which they stand.
+use super::show::number;
+use super::show::small;
+use super::show::text;
+use super::show::yes;
+use ring::Checked;
+use ring::Compared;
+use ring::Factored;
+use ring::Filled;
+use ring::Fought;
+use ring::Marked;
+use ring::Repeated;
+use sheet::Entry;
+use sheet::Walked;
+
+pub fn checked(c: Checked) {
+    small(c.number);
+    number(c.place);
+}
+
+pub fn factored(f: Factored) {
+    small(f.number);
+    number(f.place);
+    number(f.count);
+    number(f.start);
+}
+
+pub fn filled(f: Filled) {
+    small(f.number);
+    number(f.place);
+}
+
+pub fn fought(f: Fought) {
+    small(f.number);
+    number(f.place);
+    number(f.start);
+    number(f.pairs);
+}
+
+pub fn repeated(r: Repeated) {
+    small(r.number);
+    number(r.place);
+    number(r.repeat);
+}
+
+pub fn marked(m: Marked) {
+    small(m.number);
+    number(m.place);
+    number(m.n);
+    number(m.start);
+    small(m.strand);
+}
+
+pub fn compared(c: Compared) {
+    small(c.number);
+    number(c.place);
+    small(c.ring);
+    yes(c.same);
+}
+
+pub fn read(e: Entry) {
+    let m = e.marked;
+    marked(m);
+    small(e.kind);
+    number(e.before);
+}
+
+pub fn walked(w: Walked) {
+    small(w.number);
+    number(w.place);
+    number(w.sheets);
+}
+
+// What parts two answers on one line.
+pub fn bar() {
+    text(b" |");
+}

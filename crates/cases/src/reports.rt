@@ -1,0 +1,92 @@
+// The report that `ringline` prints, over many inputs.
+use super::show::front;
+use super::show::letters;
+use super::show::line;
+use super::show::number;
+use super::show::plain;
+use super::show::summed;
+use super::show::text;
+
+// A short report whole.
+fn whole(input: &[u8]) {
+    text(b"REPORT on");
+    letters(input);
+    text(b" :");
+    let mut room = [b'.'; 160000];
+    let size = report::report(input, &mut room);
+    number(size);
+    line();
+    plain(&room, size);
+}
+
+// The report on the first `n` bytes of an input: its length, its two sums and its first 20 bytes.
+fn long(label: &[u8], input: &[u8], n: usize) {
+    if input.len() < n {
+        return;
+    }
+    text(label);
+    text(b" :");
+    let mut room = [b'.'; 160000];
+    let size = report::report(&input[0..n], &mut room);
+    number(size);
+    summed(&room, size);
+    text(b" :");
+    front(&room, 20);
+    line();
+}
+
+// Short inputs.
+pub fn short() {
+    whole(b"GATTACA\n");
+    whole(b"GATTACA");
+    whole(b"A\n");
+    whole(b"ACGAC\n");
+    whole(b"TTGA");
+    whole(b"GAN");
+    whole(b"GAN\n");
+    whole(b"GATTACA\n\n");
+    whole(b"GATTACA\r\n");
+    whole(b"\nGATTACA");
+    whole(b"gattaca\n");
+    whole(b"GAT TACA\n");
+    whole(b"");
+    whole(b"\n");
+    whole(b"\n\n");
+    whole(b"\x00\n");
+}
+
+// `n` letters A and `feeds` line feeds.
+fn filled(label: &[u8], n: usize, feeds: usize) {
+    if 8195 < n {
+        return;
+    }
+    if 2 < feeds {
+        return;
+    }
+    let mut input = [b'A'; 8200];
+    input[n] = 10;
+    input[n + 1] = 10;
+    long(label, &input, n + feeds);
+}
+
+// Long inputs.
+pub fn full() {
+    filled(b"REPORT on 8,191 letters", 8191, 0);
+    filled(b"REPORT on 8,192 letters", 8192, 0);
+    filled(b"REPORT on 8,192 letters and LF", 8192, 1);
+    filled(b"REPORT on 8,192 letters and LF LF", 8192, 2);
+    filled(b"REPORT on 8,191 letters and LF LF", 8191, 2);
+    filled(b"REPORT on 8,193 letters", 8193, 0);
+    filled(b"REPORT on 8,193 letters and LF", 8193, 1);
+    filled(b"REPORT on 8,194 letters", 8194, 0);
+}
+
+// A room of 159,999 bytes stays as it is.
+pub fn small_room() {
+    let mut room = [b'.'; 159999];
+    let size = report::report(b"GATTACA", &mut room);
+    text(b"REPORT to a room of 159,999 bytes :");
+    number(size);
+    front(&room, 20);
+    line();
+}

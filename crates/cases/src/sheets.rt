@@ -1,0 +1,218 @@
+// Sheets written, read back and turned back to their deposit.
+use super::answers;
+use super::answers::bar;
+use super::answers::filled;
+use super::answers::marked;
+use super::lend;
+use super::show::bytes;
+use super::show::front;
+use super::show::letters;
+use super::show::line;
+use super::show::number;
+use super::show::small;
+use super::show::text;
+
+// The deposit in a room with a byte before the lent ones and one behind.
+fn original(bytes: &[u8], size: usize) {
+    if 38 < size {
+        return;
+    }
+    let mut room = [b'.'; 40];
+    let f = lend::original(bytes, &mut room, size);
+    text(b"original");
+    filled(f);
+    text(b" :");
+    front(&room, size + 2);
+    line();
+}
+
+// Everything that lent bytes hold: marks, letters, and the deposit in a room of `size` bytes.
+pub fn opened(bytes: &[u8], size: usize) {
+    text(b"read");
+    answers::read(sheet::read(bytes));
+    bar();
+    text(b" letters");
+    letters(sheet::letters(bytes));
+    text(b" walk");
+    answers::walked(sheet::walk(bytes));
+    line();
+    original(bytes, size);
+}
+
+// A sheet in a room of `size` bytes, with a byte 2e before the lent ones and one behind.
+pub fn written(ring: &[u8], kind: u8, size: usize) {
+    if 38 < size {
+        return;
+    }
+    let mut room = [b'.'; 40];
+    let m = lend::write(ring, kind, &mut room, size);
+    text(b"SHEET of");
+    letters(ring);
+    text(b" kind");
+    small(kind);
+    text(b" room");
+    number(size);
+    text(b" :");
+    marked(m);
+    text(b" :");
+    bytes(&room, size + 2);
+    line();
+}
+
+// A sheet written and read back.
+fn deposited(ring: &[u8], kind: u8) {
+    let n = ring.len();
+    if 30 < n {
+        return;
+    }
+    let size = n + 8;
+    written(ring, kind, size);
+    let mut room = [0u8; 40];
+    sheet::write(ring, kind, &mut room);
+    opened(&room[0..size], n);
+}
+
+// Written and read back, of both kinds.
+pub fn deposits() {
+    deposited(b"GATTACA", 1);
+    deposited(b"CACA", 1);
+    deposited(b"ACGT", 1);
+    deposited(b"TTGA", 1);
+    deposited(b"A", 1);
+    deposited(b"T", 1);
+    deposited(b"GATTACA", 0);
+    deposited(b"\xff\x80\x7f\n\x00", 0);
+    tagged();
+}
+
+// Feature rings whose letters hold the tag, and a whole sheet: of A as a feature ring, and of GATTACA.
+fn tagged() {
+    deposited(b"RG", 0);
+    deposited(b"GR", 0);
+    deposited(b"\x00\x00\x00\x00\x00\x00A\x01\x00\x00\x00\x00\x00RG", 0);
+    deposited(b"AATCTGT\x07\x00\x03\x00\x01\x01RG", 0);
+}
+
+// Rooms of n + 7 bytes, of none, of more, and what is refused before them.
+pub fn rooms() {
+    written(b"GATTACA", 1, 14);
+    written(b"GATTACA", 1, 0);
+    written(b"GATTACA", 1, 17);
+    written(b"GATTACA", 0, 14);
+    written(b"", 1, 7);
+    written(b"GAN", 1, 3);
+    written(b"GAT", 2, 3);
+    text(b"ORIGINAL of GATTACA's sheet in rooms of 6, 0 and 9");
+    line();
+    original(b"AATCTGT\x07\x00\x03\x00\x01\x01RG", 6);
+    original(b"AATCTGT\x07\x00\x03\x00\x01\x01RG", 0);
+    original(b"AATCTGT\x07\x00\x03\x00\x01\x01RG", 9);
+}
+
+// Bytes that stand for a sheet.
+fn given(label: &[u8], bytes: &[u8], size: usize) {
+    text(label);
+    line();
+    opened(bytes, size);
+}
+
+// The rules' own edges.
+pub fn edges() {
+    given(b"GIVEN ACAC start 0", b"ACAC\x04\x00\x00\x00\x00\x01RG", 4);
+    given(b"GIVEN ACAC start 1", b"ACAC\x04\x00\x01\x00\x00\x01RG", 4);
+    given(b"GIVEN ACAC start 2", b"ACAC\x04\x00\x02\x00\x00\x01RG", 4);
+    given(
+        b"GIVEN ACAC start 1, room for 3",
+        b"ACAC\x04\x00\x01\x00\x00\x01RG",
+        3,
+    );
+    given(
+        b"GIVEN ACAC start 2, room for 3",
+        b"ACAC\x04\x00\x02\x00\x00\x01RG",
+        3,
+    );
+    given(b"GIVEN ACGT strand 0", b"ACGT\x04\x00\x00\x00\x00\x01RG", 4);
+    given(b"GIVEN ACGT strand 1", b"ACGT\x04\x00\x00\x00\x01\x01RG", 4);
+    given(b"GIVEN ACGT start 4", b"ACGT\x04\x00\x04\x00\x00\x01RG", 4);
+    given(
+        b"GIVEN ACGT start 256",
+        b"ACGT\x04\x00\x00\x01\x00\x01RG",
+        4,
+    );
+    given(b"GIVEN CA", b"CA\x02\x00\x00\x00\x00\x01RG", 2);
+    given(b"GIVEN GT", b"GT\x02\x00\x00\x00\x00\x01RG", 2);
+    given(b"GIVEN CA as features", b"CA\x02\x00\x00\x00\x00\x00RG", 2);
+}
+
+// Marks that are wrong, alone and two at once.
+pub fn marks() {
+    given(b"GIVEN AAN", b"AAN\x03\x00\x00\x00\x00\x01RG", 3);
+    given(
+        b"GIVEN AAN start 9, no room",
+        b"AAN\x03\x00\x09\x00\x00\x01RG",
+        0,
+    );
+    given(
+        b"GIVEN C behind N, way back 1",
+        b"NC\x01\x00\x00\x00\x00\x01RG",
+        1,
+    );
+    given(
+        b"GIVEN kind 0 with strand 1",
+        b"AC\x02\x00\x00\x00\x01\x00RG",
+        2,
+    );
+    given(b"GIVEN strand 2", b"AC\x02\x00\x00\x00\x02\x01RG", 2);
+    given(b"GIVEN kind 2", b"AC\x02\x00\x00\x00\x00\x02RG", 2);
+    given(b"GIVEN tag RF", b"AC\x02\x00\x00\x00\x00\x01RF", 2);
+    given(b"GIVEN tag GR", b"AC\x02\x00\x00\x00\x00\x01GR", 2);
+    given(
+        b"GIVEN kind 2, way back 0",
+        b"AC\x00\x00\x00\x00\x00\x02RG",
+        2,
+    );
+    given(
+        b"GIVEN kind 2, way back 3",
+        b"AC\x03\x00\x00\x00\x00\x02RG",
+        2,
+    );
+    given(
+        b"GIVEN kind 2, wrong letter",
+        b"AN\x02\x00\x00\x00\x00\x02RG",
+        2,
+    );
+    given(
+        b"GIVEN CN start 9: 3 before 7",
+        b"CN\x02\x00\x09\x00\x00\x01RG",
+        2,
+    );
+}
+
+// Ways back.
+pub fn ways() {
+    given(b"GIVEN way back 0", b"AC\x00\x00\x00\x00\x00\x01RG", 2);
+    given(b"GIVEN way back 1", b"AC\x01\x00\x00\x00\x00\x01RG", 2);
+    given(b"GIVEN way back 3", b"AC\x03\x00\x00\x00\x00\x01RG", 2);
+    given(
+        b"GIVEN way back 3, first letter N",
+        b"NC\x03\x00\x00\x00\x00\x01RG",
+        2,
+    );
+    given(b"GIVEN way back 512", b"AC\x00\x02\x00\x00\x00\x01RG", 2);
+    given(b"GIVEN way back 8,192", b"AC\x00\x20\x00\x00\x00\x01RG", 2);
+    given(b"GIVEN way back 8,193", b"AC\x01\x20\x00\x00\x00\x01RG", 2);
+    given(b"GIVEN way back 65,535", b"AC\xff\xff\x00\x00\x00\x01RG", 2);
+    given(b"GIVEN a trailer alone", b"\x01\x00\x00\x00\x00\x01RG", 2);
+    given(b"GIVEN 7 bytes", b"\x00\x00\x00\x00\x01RG", 2);
+    given(b"GIVEN nothing", b"", 0);
+    given(
+        b"GIVEN GATTACA's sheet behind NNN",
+        b"NNNAATCTGT\x07\x00\x03\x00\x01\x01RG",
+        7,
+    );
+    given(
+        b"GIVEN AC behind a sheet",
+        b"A\x01\x00\x00\x00\x00\x01RGAC\x02\x00\x00\x00\x00\x01RG",
+        2,
+    );
+}

@@ -1,6 +1,7 @@
 -- Each number of 01's table is given exactly when 01 says: its condition holds, and none that stands before it in the order 6, 1, 2, 3, 4.
 -- Assumes nothing.
 use mathlib.Core.Path.{_≡_, refl, ap}
+use mathlib.Core.Logic.{_↔_}
 use mathlib.Core.Bool.{Bool, true, false}
 use mathlib.Core.List.{List}
 use Prim.Native.Nat.{ℕ, _≤_, _<_}
@@ -12,10 +13,6 @@ use Rattle.ring.specs.declared.judge.Verdict.{Verdict}
 use Rattle.ring.specs.Judging.{most, firstBad, Permitted, numberOf, placeOf, verdict}
 use Rattle.ring.proofs.Judging.{says-kind, says-empty, says-long, says-letter, says-short}
 use Rattle.ring.proofs.Exactly.{Case, unknown, none, many, bad, small, fine, case, good-all, bad-here, good-before, permitted-taken}
-
-infix 15 _↔_
-abbrev pub _↔_ : Type 0 → Type 0 → Type 0
-A ↔ B = (A → B) × (B → A)
 
 module _ (kind : ℕ) (w : List ℕ) (short : Bool) where
   six-only : {v : Verdict} → Case kind w short v → numberOf v ≡ 6 → 1 < kind

@@ -5,7 +5,9 @@ use super::answers::bar;
 use super::lend;
 use super::show::FRESH;
 use super::show::line;
+use super::show::named;
 use super::show::number;
+use super::show::small;
 use super::show::text;
 
 // Whether every entry still is as it was lent.
@@ -122,10 +124,20 @@ fn plain(ring: &[u8], kind: u8) {
     answers::marked(ring::mark(ring, kind));
 }
 
-// The answers in the order check, duel, repeat, mark, factors, suffixes, starts, write_key, key, write.
-pub fn brief(label: &[u8], ring: &[u8], kind: u8, size: usize) {
-    text(label);
+// The ring, its kind, and how much room each table and room has.
+fn heading(ring: &[u8], kind: u8, size: usize) {
+    text(b"EDGE");
+    named(ring);
+    text(b" kind");
+    small(kind);
+    text(b" room");
+    number(size);
     line();
+}
+
+// The answers in the order check, duel, repeat, mark, factors, suffixes, starts, write_key, key, write.
+pub fn brief(ring: &[u8], kind: u8, size: usize) {
+    heading(ring, kind, size);
     plain(ring, kind);
     factors(ring, kind, size);
     suffixes(ring, kind, size);

@@ -5,58 +5,68 @@ use super::show::letters;
 use super::show::line;
 use super::show::text;
 
-// One refusal at a time on short rings, and none.
+// Short rings with room enough and too little, and none.
 pub fn short() {
-    brief(b"EDGE ACG, room for 3", b"ACG", 1, 3);
-    brief(b"EDGE ACG, room for 4", b"ACG", 1, 4);
-    brief(b"EDGE ACG, room for 2", b"ACG", 1, 2);
-    brief(b"EDGE ACG, no room", b"ACG", 1, 0);
-    brief(b"EDGE ACG as features, room for 2", b"ACG", 0, 2);
-    brief(b"EDGE no letters, no room", b"", 1, 0);
-    brief(b"EDGE no letters, room for 3", b"", 1, 3);
-    brief(b"EDGE no features, no room", b"", 0, 0);
-    brief(b"EDGE kind 2", b"ACG", 2, 3);
-    brief(b"EDGE kind 255", b"ACG", 255, 3);
-    brief(b"EDGE first letter wrong", b"NCG", 1, 3);
-    brief(b"EDGE last letter wrong", b"ACN", 1, 3);
-    brief(b"EDGE two letters wrong", b"ANCgT", 1, 5);
-    brief(b"EDGE line feed", b"ACG\n", 1, 4);
+    brief(b"ACG", 1, 3);
+    brief(b"ACG", 1, 4);
+    brief(b"ACG", 1, 2);
+    brief(b"ACG", 1, 0);
+    brief(b"ACG", 0, 2);
+    brief(b"", 1, 0);
+    brief(b"", 1, 3);
+    brief(b"", 0, 0);
+    wrong();
+}
+
+// A kind that is none, and letters that are none.
+fn wrong() {
+    brief(b"ACG", 2, 3);
+    brief(b"ACG", 255, 3);
+    brief(b"NCG", 1, 3);
+    brief(b"ACN", 1, 3);
+    brief(b"ANCgT", 1, 5);
+    brief(b"ACG\n", 1, 4);
 }
 
 // Two refusals at once on short rings.
 pub fn both() {
-    brief(b"EDGE kind 2, no letters", b"", 2, 0);
-    brief(b"EDGE kind 2, letter wrong", b"ACN", 2, 3);
-    brief(b"EDGE kind 2, room for 2", b"ACG", 2, 2);
-    brief(b"EDGE kind 2, letter wrong, no room", b"ACN", 2, 0);
-    brief(b"EDGE letter wrong, room for 2", b"ACN", 1, 2);
-    brief(b"EDGE letter wrong, no room", b"ACN", 1, 0);
+    brief(b"", 2, 0);
+    brief(b"ACN", 2, 3);
+    brief(b"ACG", 2, 2);
+    brief(b"ACN", 2, 0);
+    brief(b"ACN", 1, 2);
+    brief(b"ACN", 1, 0);
 }
 
-// 8,192 letters are taken, all A and then with one C and one N.
+// 8,192 letters are taken.
 pub fn full() {
+    let ring = [b'A'; 8192];
+    brief(&ring, 1, 8192);
+    brief(&ring, 1, 8191);
+    brief(&ring, 0, 8192);
+    brief(&ring, 0, 8191);
+}
+
+// 8,192 letters of which the last is C, and then N.
+pub fn full_last() {
     let mut ring = [b'A'; 8192];
-    brief(b"EDGE 8,192 letters", &ring, 1, 8192);
-    brief(b"EDGE 8,192 letters, room for 8,191", &ring, 1, 8191);
-    brief(b"EDGE 8,192 features", &ring, 0, 8192);
-    brief(b"EDGE 8,192 features, room for 8,191", &ring, 0, 8191);
     ring[8191] = b'C';
-    brief(b"EDGE 8,191 A and C", &ring, 1, 8192);
+    brief(&ring, 1, 8192);
     ring[8191] = b'N';
-    brief(b"EDGE 8,192 letters, last wrong", &ring, 1, 8192);
-    brief(b"EDGE 8,192 letters, last wrong, no room", &ring, 1, 0);
-    brief(b"EDGE 8,192 features, last N", &ring, 0, 8192);
+    brief(&ring, 1, 8192);
+    brief(&ring, 1, 0);
+    brief(&ring, 0, 8192);
 }
 
 // 8,193 letters are not.
 pub fn beyond() {
     let mut ring = [b'A'; 8193];
-    brief(b"EDGE 8,193 letters", &ring, 1, 8193);
-    brief(b"EDGE 8,193 features", &ring, 0, 8193);
-    brief(b"EDGE 8,193 letters, no room", &ring, 1, 0);
-    brief(b"EDGE 8,193 letters, kind 2", &ring, 2, 8193);
+    brief(&ring, 1, 8193);
+    brief(&ring, 0, 8193);
+    brief(&ring, 1, 0);
+    brief(&ring, 2, 8193);
     ring[0] = b'N';
-    brief(b"EDGE 8,193 letters, first wrong", &ring, 1, 8193);
+    brief(&ring, 1, 8193);
 }
 
 // A byte, if it is a letter of the kind.

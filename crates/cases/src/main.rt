@@ -20,6 +20,7 @@ fn main() {
     edges::short();
     edges::both();
     edges::full();
+    edges::full_last();
     edges::beyond();
     edges::alphabet(1);
     edges::rooms();

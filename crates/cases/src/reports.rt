@@ -20,12 +20,10 @@ fn whole(input: &[u8]) {
 }
 
 // The report on the first `n` bytes of an input: its length, its two sums and its first 20 bytes.
-fn long(label: &[u8], input: &[u8], n: usize) {
+fn long(input: &[u8], n: usize) {
     if input.len() < n {
         return;
     }
-    text(label);
-    text(b" :");
     let mut room = [b'.'; 160000];
     let size = report::report(&input[0..n], &mut room);
     number(size);
@@ -44,6 +42,11 @@ pub fn short() {
     whole(b"TTGA");
     whole(b"GAN");
     whole(b"GAN\n");
+    ends();
+}
+
+// Other ends, other bytes and nothing.
+fn ends() {
     whole(b"GATTACA\n\n");
     whole(b"GATTACA\r\n");
     whole(b"\nGATTACA");
@@ -55,30 +58,40 @@ pub fn short() {
     whole(b"\x00\n");
 }
 
+// What the long input is.
+fn heading(n: usize, feeds: usize) {
+    text(b"REPORT on A");
+    number(n);
+    text(b" times, line feeds");
+    number(feeds);
+    text(b" :");
+}
+
 // `n` letters A and `feeds` line feeds.
-fn filled(label: &[u8], n: usize, feeds: usize) {
+fn filled(n: usize, feeds: usize) {
     if 8195 < n {
         return;
     }
     if 2 < feeds {
         return;
     }
+    heading(n, feeds);
     let mut input = [b'A'; 8200];
     input[n] = 10;
     input[n + 1] = 10;
-    long(label, &input, n + feeds);
+    long(&input, n + feeds);
 }
 
 // Long inputs.
 pub fn full() {
-    filled(b"REPORT on 8,191 letters", 8191, 0);
-    filled(b"REPORT on 8,192 letters", 8192, 0);
-    filled(b"REPORT on 8,192 letters and LF", 8192, 1);
-    filled(b"REPORT on 8,192 letters and LF LF", 8192, 2);
-    filled(b"REPORT on 8,191 letters and LF LF", 8191, 2);
-    filled(b"REPORT on 8,193 letters", 8193, 0);
-    filled(b"REPORT on 8,193 letters and LF", 8193, 1);
-    filled(b"REPORT on 8,194 letters", 8194, 0);
+    filled(8191, 0);
+    filled(8192, 0);
+    filled(8192, 1);
+    filled(8192, 2);
+    filled(8191, 2);
+    filled(8193, 0);
+    filled(8193, 1);
+    filled(8194, 0);
 }
 
 // A room of 159,999 bytes stays as it is.

@@ -72,6 +72,19 @@ pub fn front(room: &[u8], n: usize) {
     }
 }
 
+// A ring by its letters, or, if it is long, by its first three, its last and their number.
+pub fn named(s: &[u8]) {
+    let n = s.len();
+    if n < 30 {
+        letters(s);
+        return;
+    }
+    letters(&s[0..3]);
+    text(b"..");
+    letter(s[n - 1]);
+    number(n);
+}
+
 // A space before each byte, as two digits.
 fn hex(s: &[u8]) {
     let n = s.len();

@@ -6,7 +6,6 @@ use super::show::yes;
 use ring::Checked;
 use ring::Compared;
 use ring::Factored;
-use ring::Filled;
 use ring::Fought;
 use ring::Marked;
 use ring::Repeated;
@@ -23,11 +22,6 @@ pub fn factored(f: Factored) {
     number(f.place);
     number(f.count);
     number(f.start);
-}
-
-pub fn filled(f: Filled) {
-    small(f.number);
-    number(f.place);
 }
 
 pub fn fought(f: Fought) {

@@ -56,7 +56,7 @@ fn suffixes(ring: &[u8], kind: u8, size: usize) {
     let mut lent = [FRESH; 8204];
     let f = lend::suffixes(ring, kind, &mut lent, size);
     bar();
-    answers::filled(f);
+    answers::checked(f);
     kept(fresh(&lent));
 }
 
@@ -64,7 +64,7 @@ fn starts(ring: &[u8], kind: u8, size: usize) {
     let mut lent = [FRESH; 8204];
     let f = lend::starts(ring, kind, &mut lent, size);
     bar();
-    answers::filled(f);
+    answers::checked(f);
     kept(fresh(&lent));
 }
 

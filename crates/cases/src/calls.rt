@@ -34,7 +34,7 @@ pub fn suffixes(ring: &[u8], kind: u8, size: usize) {
     let mut lent = [FRESH; 32];
     let f = lend::suffixes(ring, kind, &mut lent, size);
     text(b"suffixes");
-    answers::filled(f);
+    answers::checked(f);
     text(b" :");
     entries(&lent, size + 2);
     line();
@@ -47,7 +47,7 @@ pub fn starts(ring: &[u8], kind: u8, size: usize) {
     let mut lent = [FRESH; 32];
     let f = lend::starts(ring, kind, &mut lent, size);
     text(b"starts");
-    answers::filled(f);
+    answers::checked(f);
     text(b" :");
     entries(&lent, size + 2);
     line();

@@ -1,7 +1,7 @@
 // Calls that are lent the middle of a larger table or room: `size` entries from the second on, so that one before and those
 // behind must stay. A size that does not fit lends the whole.
+use ring::Checked;
 use ring::Factored;
-use ring::Filled;
 use ring::Marked;
 
 pub fn factors(ring: &[u8], kind: u8, table: &mut [u16], size: usize) -> Factored {
@@ -12,7 +12,7 @@ pub fn factors(ring: &[u8], kind: u8, table: &mut [u16], size: usize) -> Factore
     ring::factors(ring, kind, &mut table[1..end])
 }
 
-pub fn suffixes(ring: &[u8], kind: u8, table: &mut [u16], size: usize) -> Filled {
+pub fn suffixes(ring: &[u8], kind: u8, table: &mut [u16], size: usize) -> Checked {
     if table.len() <= size {
         return ring::suffixes(ring, kind, table);
     }
@@ -20,7 +20,7 @@ pub fn suffixes(ring: &[u8], kind: u8, table: &mut [u16], size: usize) -> Filled
     ring::suffixes(ring, kind, &mut table[1..end])
 }
 
-pub fn starts(ring: &[u8], kind: u8, table: &mut [u16], size: usize) -> Filled {
+pub fn starts(ring: &[u8], kind: u8, table: &mut [u16], size: usize) -> Checked {
     if table.len() <= size {
         return ring::starts(ring, kind, table);
     }
@@ -34,7 +34,7 @@ pub fn write_reading(
     start: usize,
     room: &mut [u8],
     size: usize,
-) -> Filled {
+) -> Checked {
     if room.len() <= size {
         return ring::write_reading(ring, strand, start, room);
     }
@@ -69,7 +69,7 @@ pub fn write(ring: &[u8], kind: u8, room: &mut [u8], size: usize) -> Marked {
     sheet::write(ring, kind, &mut room[1..end])
 }
 
-pub fn original(bytes: &[u8], room: &mut [u8], size: usize) -> Filled {
+pub fn original(bytes: &[u8], room: &mut [u8], size: usize) -> Checked {
     if room.len() <= size {
         return sheet::original(bytes, room);
     }

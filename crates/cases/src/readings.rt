@@ -1,5 +1,5 @@
 // Readings written at every start, and letters judged as a key.
-use super::answers::filled;
+use super::answers::checked;
 use super::lend;
 use super::show::front;
 use super::show::letters;
@@ -16,7 +16,7 @@ fn reading(ring: &[u8], strand: u8, start: usize, size: usize) {
     }
     let mut room = [b'.'; 32];
     let f = lend::write_reading(ring, strand, start, &mut room, size);
-    filled(f);
+    checked(f);
     front(&room, size + 2);
 }
 

@@ -1,7 +1,7 @@
 // Sheets written, read back and turned back to their deposit.
 use super::answers;
 use super::answers::bar;
-use super::answers::filled;
+use super::answers::checked;
 use super::answers::marked;
 use super::lend;
 use super::show::bytes;
@@ -20,7 +20,7 @@ fn original(bytes: &[u8], size: usize) {
     let mut room = [b'.'; 40];
     let f = lend::original(bytes, &mut room, size);
     text(b"original");
-    filled(f);
+    checked(f);
     text(b" :");
     front(&room, size + 2);
     line();

@@ -8,7 +8,6 @@ use lib.ListN.{length}
 use Rattle.ring.specs.Judging.{over}
 use Rattle.ring.specs.declared.answer.Checked.{Checked}
 use Rattle.ring.specs.declared.answer.Factored.{Factored}
-use Rattle.ring.specs.declared.answer.Filled.{Filled}
 use Rattle.ring.specs.declared.answer.Fought.{Fought}
 use Rattle.ring.specs.declared.answer.Repeated.{Repeated}
 use Rattle.ring.specs.declared.answer.Marked.{Marked}
@@ -25,9 +24,6 @@ checkedFields a = a .place ∷ []
 
 abbrev pub factoredFields : Factored → List ℕ
 factoredFields a = a .place ∷ a .count ∷ a .start ∷ []
-
-abbrev pub filledFields : Filled → List ℕ
-filledFields a = a .place ∷ []
 
 abbrev pub foughtFields : Fought → List ℕ
 foughtFields a = a .place ∷ a .start ∷ a .pairs ∷ []

@@ -3,7 +3,7 @@ ghost use mathlib.Core.Path.{_≡_};
 ghost use mathlib.Core.Bool.{cond};
 ghost use lib.ListN.{length};
 ghost use Rattle.ring.specs.Answers.{markedOf, keyedOf, firstRoom, secondRoom, keyPart, wroteOf, wroteRoom, isKey, comparedOf};
-ghost use Rattle.probe.specs.Told.{told, markedFields, filledFields, comparedFields, keyFields};
+ghost use Rattle.probe.specs.Told.{told, markedFields, checkedFields, comparedFields, keyFields};
 use super::tell;
 
 // A yes is told as 1, a no as 0.
@@ -75,7 +75,7 @@ pub extern "C" fn probe_write_reading(
     values: &mut [u64],
 ) -> u8
     ensures { λ r. ⌜ r ≡ wroteOf (now (letters .entry)) (length (now (room .entry))) .number ⌝ }
-    ensures { λ _. ⌜ now (values .exit) ≡ told (filledFields (wroteOf (now (letters .entry)) (length (now (room .entry))))) (now (values .entry)) ⌝ }
+    ensures { λ _. ⌜ now (values .exit) ≡ told (checkedFields (wroteOf (now (letters .entry)) (length (now (room .entry))))) (now (values .entry)) ⌝ }
     ensures { λ _. ⌜ now (room .exit) ≡ wroteRoom (now (letters .entry)) strand start (now (room .entry)) ⌝ }
 {
     let a = ring::write_reading(letters, strand, start, room);

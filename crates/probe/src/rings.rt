@@ -2,7 +2,7 @@
 ghost use mathlib.Core.Path.{_≡_};
 ghost use lib.ListN.{length};
 ghost use Rattle.ring.specs.Answers.{checkedOf, factoredOf, factoredTable, filledOf, suffixesTable, startsTable, foughtOf, repeatedOf};
-ghost use Rattle.probe.specs.Told.{told, checkedFields, factoredFields, filledFields, foughtFields, repeatedFields};
+ghost use Rattle.probe.specs.Told.{told, checkedFields, factoredFields, checkedFields, foughtFields, repeatedFields};
 use super::tell;
 
 #[no_mangle]
@@ -29,7 +29,7 @@ pub extern "C" fn probe_factors(kind: u8, ring: &[u8], table: &mut [u16], values
 #[no_mangle]
 pub extern "C" fn probe_suffixes(kind: u8, ring: &[u8], table: &mut [u16], values: &mut [u64]) -> u8
     ensures { λ r. ⌜ r ≡ filledOf kind (now (ring .entry)) (length (now (table .entry))) .number ⌝ }
-    ensures { λ _. ⌜ now (values .exit) ≡ told (filledFields (filledOf kind (now (ring .entry)) (length (now (table .entry))))) (now (values .entry)) ⌝ }
+    ensures { λ _. ⌜ now (values .exit) ≡ told (checkedFields (filledOf kind (now (ring .entry)) (length (now (table .entry))))) (now (values .entry)) ⌝ }
     ensures { λ _. ⌜ now (table .exit) ≡ suffixesTable kind (now (ring .entry)) (now (table .entry)) ⌝ }
 {
     let a = ring::suffixes(ring, kind, table);
@@ -40,7 +40,7 @@ pub extern "C" fn probe_suffixes(kind: u8, ring: &[u8], table: &mut [u16], value
 #[no_mangle]
 pub extern "C" fn probe_starts(kind: u8, ring: &[u8], table: &mut [u16], values: &mut [u64]) -> u8
     ensures { λ r. ⌜ r ≡ filledOf kind (now (ring .entry)) (length (now (table .entry))) .number ⌝ }
-    ensures { λ _. ⌜ now (values .exit) ≡ told (filledFields (filledOf kind (now (ring .entry)) (length (now (table .entry))))) (now (values .entry)) ⌝ }
+    ensures { λ _. ⌜ now (values .exit) ≡ told (checkedFields (filledOf kind (now (ring .entry)) (length (now (table .entry))))) (now (values .entry)) ⌝ }
     ensures { λ _. ⌜ now (table .exit) ≡ startsTable kind (now (ring .entry)) (now (table .entry)) ⌝ }
 {
     let a = ring::starts(ring, kind, table);

@@ -4,7 +4,7 @@ ghost use lib.ListN.{length};
 ghost use Rattle.sheet.specs.Sheet.{writtenOf, writtenRoom};
 ghost use Rattle.sheet.specs.Reader.{entryOf, partOf, originalOf, originalRoom};
 ghost use Rattle.sheet.specs.Book.{walkedOf};
-ghost use Rattle.probe.specs.Told.{told, markedFields, filledFields, entryFields, partFields, walkedFields};
+ghost use Rattle.probe.specs.Told.{told, markedFields, checkedFields, entryFields, partFields, walkedFields};
 use super::tell;
 
 #[no_mangle]
@@ -64,7 +64,7 @@ pub extern "C" fn probe_sheet_letters(bytes: &[u8], values: &mut [u64]) -> u8
 #[no_mangle]
 pub extern "C" fn probe_sheet_original(bytes: &[u8], room: &mut [u8], values: &mut [u64]) -> u8
     ensures { λ r. ⌜ r ≡ originalOf (now (bytes .entry)) (length (now (room .entry))) .number ⌝ }
-    ensures { λ _. ⌜ now (values .exit) ≡ told (filledFields (originalOf (now (bytes .entry)) (length (now (room .entry))))) (now (values .entry)) ⌝ }
+    ensures { λ _. ⌜ now (values .exit) ≡ told (checkedFields (originalOf (now (bytes .entry)) (length (now (room .entry))))) (now (values .entry)) ⌝ }
     ensures { λ _. ⌜ now (room .exit) ≡ originalRoom (now (bytes .entry)) (now (room .entry)) ⌝ }
 {
     let a = sheet::original(bytes, room);

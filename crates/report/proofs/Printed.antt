@@ -18,10 +18,10 @@ use Rattle.words.proofs.Turn.{length-reading}
 use Rattle.words.proofs.Strand.{length-opposite}
 use Rattle.ring.specs.declared.judge.Verdict.{Verdict}
 use Rattle.ring.specs.declared.judge.Verdict.the-variants.{Taken, Kind, Empty, Long, Letter, Short}
-use Rattle.ring.specs.Judging.{Permitted, verdict, numberOf, placeOf, taken, over}
+use Rattle.ring.specs.Judging.{Permitted, verdict, numberOf, placeOf, taken, over, Given, unknown, none, many, letter, lacking, done}
 use Rattle.ring.specs.Answers.{wroteRoom}
 use Rattle.ring.proofs.Laid.{Laid, laid-one, laid-part, laid-size}
-use Rattle.ring.proofs.Exactly.{Case, unknown, none, many, bad, small, fine, case}
+use Rattle.ring.proofs.Exactly.{given}
 use Rattle.report.specs.Decimal.{row}
 use Rattle.report.specs.Report.{kept, reportOn, reportOf, reportLength, reportRoom, headLine, factorLine, suffixLine, startLine, keyLine, fiveLines}
 
@@ -122,16 +122,16 @@ accepted Long h = absurd (omega arith)
 accepted (Letter i) h = absurd (omega arith)
 accepted Short h = absurd (omega arith)
 
-small-place : (kind : ℕ) (w : List ℕ) (short : Bool) {v : Verdict} → Case kind w short v → placeOf v ≤ 8192
-small-place kind w short (unknown h) = omega arith
-small-place kind w short (none h l) = omega arith
-small-place kind w short (many h l) = omega arith
-small-place kind w short (bad h l m n) = omega arith
-small-place kind w short (small h l) = omega arith
-small-place kind w short (fine h l) = omega arith
+small-place : (kind : ℕ) (w : List ℕ) (short : Bool) {k i : ℕ} → Given kind w short k i → i ≤ 8192
+small-place kind w short (unknown k) = omega arith
+small-place kind w short (none k e) = omega arith
+small-place kind w short (many k l) = omega arith
+small-place kind w short (letter k m i h b g) = omega arith
+small-place kind w short (lacking p t) = omega arith
+small-place kind w short (done p t) = omega arith
 
 pub place-small : (kind : ℕ) (w : List ℕ) (short : Bool) → placeOf (verdict kind w short) ≤ 8192
-place-small kind w short = small-place kind w short (case kind w short)
+place-small kind w short = small-place kind w short (given kind w short)
 
 -- ---- the report: n bytes are kept, and judged
 

@@ -5,13 +5,13 @@ use mathlib.Core.Bool.{Bool, true, false, true≢false}
 use mathlib.Core.List.{List, [], _∷_}
 use Prim.Native.Nat.{ℕ, zero, suc, _≤_, _<_}
 use native.Mathlib.Omega.{arith}
-use borrow.Author.Tests.{leb-true, leb-false}
+use borrow.Author.Tests.{leb-true, leb-false, eqb-true}
 use lib.ListN.{length, getD}
 use Rattle.words.specs.Kind.{known, isLetter}
 use Rattle.words.proofs.Search.{by-test, either, lt-or-ge}
 use Rattle.ring.specs.declared.judge.Verdict.{Verdict}
 use Rattle.ring.specs.declared.judge.Verdict.the-variants.{Taken, Kind, Empty, Long, Letter, Short}
-use Rattle.ring.specs.Judging.{most, firstBad, Permitted, taken, verdict}
+use Rattle.ring.specs.Judging.{most, firstBad, Permitted, numberOf, placeOf, taken, verdict, Given, unknown, none, many, letter, lacking, done}
 use Rattle.ring.proofs.Judging.{says-kind, says-empty, says-long, says-letter, says-short, says-taken}
 
 -- ---- the first position that has no letter
@@ -42,59 +42,72 @@ good-all kind w l =
 pub good-at : (kind : ℕ) (w : List ℕ) → length w ≤ firstBad kind w → (i : ℕ) → i < length w → isLetter kind (getD w i 0) ≡ true
 good-at kind w h i l = good-before kind w i (omega arith)
 
+-- a position that has no letter, and letters before it, is the first
+pub bad-is : (kind : ℕ) (w : List ℕ) (i : ℕ) → i < length w → isLetter kind (getD w i 0) ≡ false
+    → ((j : ℕ) → j < i → isLetter kind (getD w j 0) ≡ true) → firstBad kind w ≡ i
+bad-is kind w i h b g =
+    either (lt-or-ge (firstBad kind w) i) (λ l. absurd (true≢false (sym (g _ l) ∙ bad-here kind w (omega arith))))
+    (λ l. either (lt-or-ge i (firstBad kind w)) (λ m. absurd (true≢false (sym (good-before kind w i m) ∙ b))) (λ m. omega arith))
+
+-- 0 is the number of Taken alone
+pub number-taken : (v : Verdict) → numberOf v ≡ 0 → v ≡ Taken
+number-taken Taken e = refl
+number-taken Kind e = absurd (omega arith)
+number-taken Empty e = absurd (omega arith)
+number-taken Long e = absurd (omega arith)
+number-taken (Letter i) e = absurd (omega arith)
+number-taken Short e = absurd (omega arith)
+
 pub taken-is : (v : Verdict) → taken v ≡ true → v ≡ Taken
-taken-is Taken e = refl
-taken-is Kind e = absurd (true≢false (sym e))
-taken-is Empty e = absurd (true≢false (sym e))
-taken-is Long e = absurd (true≢false (sym e))
-taken-is (Letter i) e = absurd (true≢false (sym e))
-taken-is Short e = absurd (true≢false (sym e))
+taken-is v e = number-taken v (eqb-true (numberOf v) 0 e)
 
 -- ---- which rule answered
 
-pub data Case (kind : ℕ) (w : List ℕ) (short : Bool) : Verdict → Type 0 where
-  unknown : 1 < kind → Case kind w short Kind
-  none : kind ≤ 1 → length w ≡ 0 → Case kind w short Empty
-  many : kind ≤ 1 → most < length w → Case kind w short Long
-  bad : kind ≤ 1 → 0 < length w → length w ≤ most → firstBad kind w < length w → Case kind w short (Letter (firstBad kind w))
-  small : Permitted kind w → short ≡ true → Case kind w short Short
-  fine : Permitted kind w → short ≡ false → Case kind w short Taken
-
 permitted : (kind : ℕ) (w : List ℕ) → known kind ≡ true → 0 < length w → length w ≤ most → length w ≤ firstBad kind w → Permitted kind w
-permitted kind w k p m f = record { kinds = k; some = p; within = m; letters = λ i h. good-before kind w i (omega arith) }
+permitted kind w k p m f = record { kinds = k; some = p; within = m; letters = good-at kind w f }
 
 module _ (kind : ℕ) (w : List ℕ) (short : Bool) where
-  case-long : known kind ≡ true → kind ≤ 1 → 0 < length w → Case kind w short (verdict kind w short)
-  case-long k l p =
-      let z : length w ≡ 0 → ⊥ = λ e. omega arith in
-      either (lt-or-ge most (length w)) (λ h. rw (says-long kind w short l z h) (many l h))
-      (λ m. either (lt-or-ge (firstBad kind w) (length w)) (λ h. rw (says-letter kind w short l z m _ refl h) (bad l p m h))
-      (λ f. by-test short (λ t. rw (says-short kind w short l z m f t) (small (permitted kind w k p m f) t))
-      (λ t. rw (says-taken kind w short l z m f t) (fine (permitted kind w k p m f) t))))
+  abbrev Said : Verdict → Type 0
+  Said v = Given kind w short (numberOf v) (placeOf v)
 
-  pub case : Case kind w short (verdict kind w short)
-  case =
+  given-long : known kind ≡ true → kind ≤ 1 → 0 < length w → Said (verdict kind w short)
+  given-long k l p =
+      let z : length w ≡ 0 → ⊥ = λ e. omega arith in
+      either (lt-or-ge most (length w)) (λ h. rw (says-long kind w short l z h) (many k h))
+      (λ m. either (lt-or-ge (firstBad kind w) (length w))
+      (λ h. rw (says-letter kind w short l z m _ refl h) (letter k m (firstBad kind w) h (bad-here kind w h) (good-before kind w)))
+      (λ f. by-test short (λ t. rw (says-short kind w short l z m f t) (lacking (permitted kind w k p m f) t))
+      (λ t. rw (says-taken kind w short l z m f t) (done (permitted kind w k p m f) t))))
+
+  -- what is said is given
+  pub given : Said (verdict kind w short)
+  given =
       by-test (known kind)
       (λ k. let l : kind ≤ 1 = leb-true kind 1 k in
-      either (lt-or-ge 0 (length w)) (λ p. case-long k l p)
-      (λ p. let e : length w ≡ 0 = omega arith in rw (says-empty kind w short l e) (none l e)))
-      (λ k. let h : 1 < kind = leb-false kind 1 k in rw (says-kind kind w short h) (unknown h))
+      either (lt-or-ge 0 (length w)) (λ p. given-long k l p)
+      (λ p. let e : length w ≡ 0 = omega arith in rw (says-empty kind w short l e) (none k e)))
+      (λ k. rw (says-kind kind w short (leb-false kind 1 k)) (unknown k))
 
   -- ---- what is taken
 
-  fits : {v : Verdict} → Case kind w short v → taken v ≡ true → Permitted kind w × (short ≡ false)
-  fits (unknown h) e = absurd (true≢false (sym e))
-  fits (none h l) e = absurd (true≢false (sym e))
-  fits (many h l) e = absurd (true≢false (sym e))
-  fits (bad h l m n) e = absurd (true≢false (sym e))
-  fits (small h l) e = absurd (true≢false (sym e))
-  fits (fine h l) e = (h, l)
+  fits : {k i : ℕ} → Given kind w short k i → k ≡ 0 → Permitted kind w × (short ≡ false)
+  fits (unknown k) e = absurd (omega arith)
+  fits (none k l) e = absurd (omega arith)
+  fits (many k l) e = absurd (omega arith)
+  fits (letter k l i h b g) e = absurd (omega arith)
+  fits (lacking p t) e = absurd (omega arith)
+  fits (done p t) e = (p, t)
 
   -- a call is done only on a permitted ring with room enough
   pub taken-permitted : verdict kind w short ≡ Taken → Permitted kind w × (short ≡ false)
-  taken-permitted e = fits case (ap taken e)
+  taken-permitted e = fits given (ap numberOf e)
 
   -- a permitted ring with room enough is taken
   pub permitted-taken : Permitted kind w → short ≡ false → verdict kind w short ≡ Taken
   permitted-taken p e =
       says-taken kind w short (leb-true kind 1 (p .kinds)) (λ z. omega (arith, p .some)) (p .within) (good-all kind w (p .letters)) e
+
+  -- without room enough it is refused with 4
+  pub permitted-short : Permitted kind w → short ≡ true → verdict kind w short ≡ Short
+  permitted-short p e =
+      says-short kind w short (leb-true kind 1 (p .kinds)) (λ z. omega (arith, p .some)) (p .within) (good-all kind w (p .letters)) e

@@ -13,7 +13,7 @@ use Rattle.words.specs.Ring.{reading}
 use Rattle.words.specs.Strand.{opposite}
 use Rattle.words.proofs.Search.{by-test}
 use Rattle.words.proofs.Strand.{length-opposite}
-use Rattle.ring.specs.declared.answer.Filled.{Filled}
+use Rattle.ring.specs.declared.answer.Checked.{Checked}
 use Rattle.ring.specs.Judging.{over}
 use Rattle.ring.specs.Answers.{wroteOf, wroteRoom}
 
@@ -33,14 +33,14 @@ pub upto-within : (n at : ℕ) → upTo n at ≤ n
 upto-within n at = by-test (ltb n at) (λ t. rw t (omega arith)) (λ t. rw t (ltb-false n at t))
 
 module _ (w room : List ℕ) (s at : ℕ) where
-  pub wrote-short : length room < length w → (_≡_ {A = Filled} (record { number = 4; place = 0 }) (wroteOf w (length room))) × (room ≡ wroteRoom w s at room)
+  pub wrote-short : length room < length w → (_≡_ {A = Checked} (record { number = 4; place = 0 }) (wroteOf w (length room))) × (room ≡ wroteRoom w s at room)
   wrote-short h = (rw (lt-ltb (length room) (length w) h), rw (lt-ltb (length room) (length w) h))
 
   module _ (h : length w ≤ length room) (r : ℕ) (e : r ≡ upTo (length w) at) (new : List ℕ) where
-    pub wrote-opposite : s ≡ 1 → new ≡ over (reading (opposite w) r) room → (_≡_ {A = Filled} (record { number = 0; place = 0 }) (wroteOf w (length room))) × (new ≡ wroteRoom w s at room)
+    pub wrote-opposite : s ≡ 1 → new ≡ over (reading (opposite w) r) room → (_≡_ {A = Checked} (record { number = 0; place = 0 }) (wroteOf w (length room))) × (new ≡ wroteRoom w s at room)
     wrote-opposite q f =
         (rw (le-ltb (length room) (length w) h), f ∙ rw (le-ltb (length room) (length w) h, eq-eqb s 1 q, e, reading-upto (opposite w) (length w) at (length-opposite w)))
 
-    pub wrote-own : (s ≡ 1 → ⊥) → new ≡ over (reading w r) room → (_≡_ {A = Filled} (record { number = 0; place = 0 }) (wroteOf w (length room))) × (new ≡ wroteRoom w s at room)
+    pub wrote-own : (s ≡ 1 → ⊥) → new ≡ over (reading w r) room → (_≡_ {A = Checked} (record { number = 0; place = 0 }) (wroteOf w (length room))) × (new ≡ wroteRoom w s at room)
     wrote-own q f =
         (rw (le-ltb (length room) (length w) h), f ∙ rw (le-ltb (length room) (length w) h, ne-eqb s 1 q, e, reading-upto w (length w) at refl))

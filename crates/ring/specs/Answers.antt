@@ -16,7 +16,6 @@ use Rattle.words.specs.Repeat.{repeat}
 use Rattle.ring.specs.declared.judge.Verdict.{Verdict}
 use Rattle.ring.specs.declared.answer.Checked.{Checked}
 use Rattle.ring.specs.declared.answer.Factored.{Factored}
-use Rattle.ring.specs.declared.answer.Filled.{Filled}
 use Rattle.ring.specs.declared.answer.Fought.{Fought}
 use Rattle.ring.specs.declared.answer.Repeated.{Repeated}
 use Rattle.ring.specs.declared.answer.Marked.{Marked}
@@ -27,7 +26,7 @@ use Rattle.ring.specs.Judging.{Permitted, verdict, taken, numberOf, plac
 abbrev pub fewer : ℕ → List ℕ → Bool
 fewer size w = ltb size (length w)
 
--- ---- judging alone
+-- ---- the number and place alone: a ring judged
 
 abbrev pub checkedAs : Verdict → Checked
 checkedAs v = record { number = numberOf v; place = placeOf v }
@@ -53,11 +52,8 @@ factoredTable kind w t = after (verdict kind w (fewer (length t) w)) (factorTabl
 
 -- ---- the two prefix tables
 
-abbrev pub filledAs : Verdict → Filled
-filledAs v = record { number = numberOf v; place = placeOf v }
-
-abbrev pub filledOf : ℕ → List ℕ → ℕ → Filled
-filledOf kind w size = filledAs (verdict kind w (fewer size w))
+abbrev pub filledOf : ℕ → List ℕ → ℕ → Checked
+filledOf kind w size = checkedAs (verdict kind w (fewer size w))
 
 abbrev pub suffixesTable : ℕ → List ℕ → List ℕ → List ℕ
 suffixesTable kind w t = after (verdict kind w (fewer (length t) w)) (suffixTable w) t
@@ -148,8 +144,7 @@ comparedOf kind u v = comparedAs (verdict kind u false) (verdict kind v false) (
 -- ---- a reading written, and letters judged as a key
 
 -- the reading at a start of a strand, the ring as it stands from n on; 4 where the room is short is the only refusal
-
-abbrev pub wroteOf : List ℕ → ℕ → Filled
+abbrev pub wroteOf : List ℕ → ℕ → Checked
 wroteOf w size = record { number = cond (fewer size w) 4 0; place = 0 }
 
 abbrev pub wroteRoom : List ℕ → ℕ → ℕ → List ℕ → List ℕ

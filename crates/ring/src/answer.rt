@@ -1,6 +1,6 @@
 // What the public calls answer: 01's number and place first, and for a refused call every other field 0.
 
-// A ring judged, and nothing else.
+// The number and the place alone: a ring judged, a table or a room filled.
 pub struct Checked {
     pub number: u8,
     pub place: usize,
@@ -12,12 +12,6 @@ pub struct Factored {
     pub place: usize,
     pub count: usize,
     pub start: usize,
-}
-
-// A table or a room filled.
-pub struct Filled {
-    pub number: u8,
-    pub place: usize,
 }
 
 // The duel route: the start, and the pairs read.

@@ -17,7 +17,6 @@ mod suffix;
 pub use answer::Checked;
 pub use answer::Compared;
 pub use answer::Factored;
-pub use answer::Filled;
 pub use answer::Fought;
 pub use answer::Marked;
 pub use answer::Repeated;

@@ -10,7 +10,7 @@ ghost use Rattle.words.specs.Order.{before};
 ghost use Rattle.words.specs.Strand.{opposite};
 ghost use Rattle.ring.specs.Judging.{over};
 ghost use Rattle.ring.specs.Answers.{equal, wroteOf, wroteRoom};
-use super::answer::Filled;
+use super::answer::Checked;
 use super::strand::copy;
 use super::strand::copy_opposite;
 
@@ -103,13 +103,13 @@ fn up_to(at: usize, n: usize) -> usize
 }
 
 // The reading at a start of a strand, written to a lent room; 4 where the room is short is the only refusal.
-pub fn write_reading(letters: &[u8], strand: u8, start: usize, room: &mut [u8]) -> Filled
+pub fn write_reading(letters: &[u8], strand: u8, start: usize, room: &mut [u8]) -> Checked
     ensures { λ r. ⌜ r ≡ wroteOf (now (letters .entry)) (length (now (room .entry))) ⌝ }
     ensures { λ r. ⌜ now (room .exit) ≡ wroteRoom (now (letters .entry)) strand start (now (room .entry)) ⌝ }
 {
     let n = letters.len();
     if room.len() < n {
-        return Filled {
+        return Checked {
             number: 4,
             place: 0,
         };
@@ -120,7 +120,7 @@ pub fn write_reading(letters: &[u8], strand: u8, start: usize, room: &mut [u8]) 
     } else {
         put_reading(letters, at, room);
     }
-    Filled {
+    Checked {
         number: 0,
         place: 0,
     }

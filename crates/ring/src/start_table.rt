@@ -10,7 +10,7 @@ ghost use Rattle.words.specs.Block.{Head, Block};
 ghost use Rattle.ring.specs.Answers.{filledOf, startsTable};
 ghost use Rattle.words.specs.Mark.{Flagged, unmark, Judged, Outside, Fresh, Marking, Marked, Done};
 ghost use Rattle.ring.specs.Judging.{most};
-use super::answer::Filled;
+use super::answer::Checked;
 use super::factor::first_factor;
 use super::judge::Verdict;
 use super::judge::judge;
@@ -137,19 +137,19 @@ fn fill_starts(w: &[u8], t: &mut [u16])
 }
 
 // The start of the ring made of each prefix alone, in the table's first n entries.
-pub fn starts(ring: &[u8], kind: u8, table: &mut [u16]) -> Filled
+pub fn starts(ring: &[u8], kind: u8, table: &mut [u16]) -> Checked
     ensures { λ r. ⌜ r ≡ filledOf kind (now (ring .entry)) (length (now (table .entry))) ⌝ }
     ensures { λ _. ⌜ now (table .exit) ≡ startsTable kind (now (ring .entry)) (now (table .entry)) ⌝ }
 {
     let v = judge(ring, kind, table.len() < ring.len());
     let Verdict::Taken = v else {
-        return Filled {
+        return Checked {
             number: number_of(v),
             place: place_of(v),
         };
     };
     fill_starts(ring, table);
-    Filled {
+    Checked {
         number: 0,
         place: 0,
     }

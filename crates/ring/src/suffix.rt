@@ -5,7 +5,7 @@ ghost use lib.ListN.{length};
 ghost use Rattle.words.specs.Prefix.{suffixTable};
 ghost use Rattle.ring.specs.Judging.{most, over};
 ghost use Rattle.ring.specs.Answers.{filledOf, suffixesTable};
-use super::answer::Filled;
+use super::answer::Checked;
 use super::judge::Verdict;
 use super::judge::judge;
 use super::judge::number_of;
@@ -40,19 +40,19 @@ fn fill_suffixes(ring: &[u8], table: &mut [u16])
 }
 
 // The first position of the least nonempty suffix of each prefix, in the table's first n entries.
-pub fn suffixes(ring: &[u8], kind: u8, table: &mut [u16]) -> Filled
+pub fn suffixes(ring: &[u8], kind: u8, table: &mut [u16]) -> Checked
     ensures { λ r. ⌜ r ≡ filledOf kind (now (ring .entry)) (length (now (table .entry))) ⌝ }
     ensures { λ _. ⌜ now (table .exit) ≡ suffixesTable kind (now (ring .entry)) (now (table .entry)) ⌝ }
 {
     let v = judge(ring, kind, table.len() < ring.len());
     let Verdict::Taken = v else {
-        return Filled {
+        return Checked {
             number: number_of(v),
             place: place_of(v),
         };
     };
     fill_suffixes(ring, table);
-    Filled {
+    Checked {
         number: 0,
         place: 0,
     }

@@ -18,8 +18,8 @@ use Rattle.ring.specs.declared.judge.Verdict.the-variants.{Taken, Short}
 use Rattle.ring.specs.declared.answer.Marked.{Marked}
 use Rattle.ring.specs.Judging.{Permitted, verdict, numberOf, over, after}
 use Rattle.ring.specs.Answers.{markedAs, markedOf, wroteRoom}
-use Rattle.ring.proofs.Exactly.{permitted-taken}
-use Rattle.ring.proofs.Verdicts.{number-refused, number-permitted, refused-any, permitted-short}
+use Rattle.ring.proofs.Exactly.{permitted-taken, permitted-short}
+use Rattle.ring.proofs.Verdicts.{number-refused, number-permitted, refused-any}
 use Rattle.ring.proofs.Compared.{length-key}
 use Rattle.ring.proofs.Deposit.{start-below}
 use Rattle.sheet.specs.Sheet.{trailerOf, sheetOf, writeVerdict, writtenOf, writtenRoom}
@@ -82,7 +82,7 @@ module _ (kind : ℕ) (w room : List ℕ) (m : Marked) (e : m ≡ markedOf kind 
         → (_≡_ {A = Marked} (record { number = 4; place = 0; n = 0; start = 0; strand = 0 }) (writtenOf kind w (length room))) × (room ≡ writtenRoom kind w room)
     write-short h =
         let t : ltb (length room) (length w + 8) ≡ true = lt-ltb (length room) (length w + 8) (omega (arith, n-is)) in
-        answer-as Short (ap (verdict kind w) t ∙ permitted-short kind w permitted) _ room refl refl
+        answer-as Short (permitted-short kind w _ permitted t) _ room refl refl
 
     module _ (h : m .n + 8 ≤ length room) (x : List ℕ) (ex : x ≡ wroteRoom w (m .strand) (m .start) room) where
       -- the reading written is the key

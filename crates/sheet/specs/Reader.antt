@@ -5,7 +5,7 @@ use mathlib.Core.List.{List, [], _∷_, _++_}
 use Prim.Native.Nat.{ℕ}
 use lib.Dec.{ltb}
 use lib.ListN.{length, take, drop}
-use Rattle.ring.specs.declared.answer.Filled.{Filled}
+use Rattle.ring.specs.declared.answer.Checked.{Checked}
 use Rattle.ring.specs.Rule.{rule, judged}
 use Rattle.ring.specs.Judging.{over}
 use Rattle.ring.specs.Answers.{fewer, deposit}
@@ -36,7 +36,7 @@ partOf b = partAs b (foundOf b)
 unfoldable pub restoredOf : List ℕ → ℕ → Found
 restoredOf b size = judged (sheetRules b ++ rule (ltb size (wayBack b)) (Refused 4 0) ∷ []) (sheetIn b)
 
-abbrev pub originalOf : List ℕ → ℕ → Filled
+abbrev pub originalOf : List ℕ → ℕ → Checked
 originalOf b size = record { number = numberOf (restoredOf b size); place = placeOf (restoredOf b size) }
 
 -- a room with the deposit of letters and marks written, as it was where it is too short

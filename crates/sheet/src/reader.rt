@@ -7,7 +7,7 @@ ghost use Rattle.sheet.specs.Reader.{entryOf, partOf, originalOf, origin
 use super::answer::Entry;
 use super::answer::Found;
 use super::trailer;
-use ring::Filled;
+use ring::Checked;
 use ring::Marked;
 
 // The sheet's marks and kind, and how many bytes stand before it.
@@ -59,7 +59,7 @@ pub fn letters(bytes: &[u8]) -> &[u8]
 }
 
 // Writes the letters of a key turned back from its start, on its strand: the deposit, 4 for a short room.
-fn restore(letters: &[u8], start: usize, strand: u8, room: &mut [u8]) -> Filled
+fn restore(letters: &[u8], start: usize, strand: u8, room: &mut [u8]) -> Checked
     requires { ⌜ start ≤ length (now letters) ⌝ }
     ensures { λ r. ⌜ r ≡ wroteOf (now (letters .entry)) (length (now (room .entry))) ⌝ }
     ensures { λ _. ⌜ now (room .exit) ≡ restoredIn (now (letters .entry)) start strand (now (room .entry)) ⌝ }
@@ -71,12 +71,12 @@ fn restore(letters: &[u8], start: usize, strand: u8, room: &mut [u8]) -> Filled
 }
 
 // Writes the deposit's original letters to a lent room: the sheet's numbers, then 4.
-pub fn original(bytes: &[u8], room: &mut [u8]) -> Filled
+pub fn original(bytes: &[u8], room: &mut [u8]) -> Checked
     ensures { λ r. ⌜ r ≡ originalOf (now (bytes .entry)) (length (now (room .entry))) ⌝ }
     ensures { λ _. ⌜ now (room .exit) ≡ originalRoom (now (bytes .entry)) (now (room .entry)) ⌝ }
 {
     match trailer::trailer(bytes) {
-        Found::Refused(number, place) => Filled { number, place },
+        Found::Refused(number, place) => Checked { number, place },
         Found::Sheet {
             start,
             strand,

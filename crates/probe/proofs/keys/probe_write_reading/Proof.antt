@@ -1,7 +1,7 @@
 -- `probe::keys::probe_write_reading` meets its contract.
 -- Assumes nothing.
 use borrow.Author.Needs.{needs}
-use Rattle.probe.specs.Told.{filledFields}
+use Rattle.probe.specs.Told.{checkedFields}
 use Rattle.probe.proofs.Telling.{tells}
 use Rattle.probe.proofs.keys.probe_write_reading.Statement.{statement}
 use Rattle.probe.proofs.keys.probe_write_reading.Tie as tie
@@ -22,7 +22,7 @@ same-length-2 : tie.Need-same-length-2
 same-length-2 c = search needs
 
 returns : tie.Need-returns
-returns c = (cc, (tells filledFields _ _ _ _ (c .before .before .tell .ensures) (c .before .before .before .before .before .before .before .write-reading .ensures .0), cc))
+returns c = (cc, (tells checkedFields _ _ _ _ (c .before .before .tell .ensures) (c .before .before .before .before .before .before .before .write-reading .ensures .0), cc))
 
 pub probe-write-reading-spec : {M : Type 1} → statement M
 probe-write-reading-spec =

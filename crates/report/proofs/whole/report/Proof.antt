@@ -7,7 +7,7 @@ use borrow.Author.Tests.{lt-ltb}
 use lib.ListN.{take}
 use lib.Seq.{length-take-le}
 use Rattle.report.proofs.Printed.{place-small, report-declined, report-accepted}
-use Rattle.ring.proofs.Numbers.{number-nought}
+use Rattle.ring.proofs.Verdicts.{number-permitted}
 use borrow.Author.Needs.{needs}
 use Rattle.report.proofs.whole.report.Statement.{statement}
 use Rattle.report.proofs.whole.report.Tie as tie
@@ -47,7 +47,7 @@ returns-2 c =
 
 put-lines-requires : tie.Need-put-lines-requires
 put-lines-requires c κs =
-    (number-nought 1 _ false .0 (sym (ap (λ x. x .number) (c .before .before .before .check .ensures)) ∙ c .before .if2 .left) .0, search needs)
+    (number-permitted 1 _ false (sym (ap (λ x. x .number) (c .before .before .before .check .ensures)) ∙ c .before .if2 .left), search needs)
 
 same-length-2 : tie.Need-same-length-2
 same-length-2 c = search needs

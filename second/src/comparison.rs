@@ -160,6 +160,19 @@ impl Comparison {
         self.unchanged("write_reading", strand, ring, &lent, ring);
     }
 
+    /// How many strands a kind has: those that a ring of it is read on, none where every ring is refused with 6.
+    pub fn strands_of(&mut self, kind: u8) {
+        let want = match judge(kind, b"A", false) {
+            Ok(()) => 1 + keys::key(kind, b"A").other.is_some() as u8,
+            Err(_) => 0,
+        };
+        self.calls += 1;
+        let got = probe::strands_of(kind);
+        if got != want {
+            differ("strands_of", kind, b"", format!("{got}, not {want}"));
+        }
+    }
+
     /// Letters judged as a key.
     pub fn is_key(&mut self, kind: u8, letters: &[u8], start: usize, strand: u8, want: bool) {
         let lent = self.lend(letters);

@@ -42,6 +42,7 @@ mod c {
             values: *mut u64,
             v: usize,
         ) -> u8;
+        pub fn probe_strands_of(kind: u8) -> u8;
         pub fn probe_is_key(kind: u8, letters: *const u8, n: usize, start: usize, strand: u8) -> u8;
         pub fn probe_compare(kind: u8, first: *const u8, f: usize, second: *const u8, s: usize, values: *mut u64, v: usize)
             -> u8;
@@ -105,6 +106,10 @@ pub fn key(kind: u8, ring: &Bytes, first: &mut Bytes, second: &mut Bytes, values
 pub fn write_reading(strand: u8, start: usize, letters: &Bytes, room: &mut Bytes, values: &mut Values) -> u8 {
     let (n, r, v) = (letters.size(), room.size(), values.size());
     unsafe { c::probe_write_reading(strand, start, letters.front(), n, room.front_mut(), r, values.front_mut(), v) }
+}
+
+pub fn strands_of(kind: u8) -> u8 {
+    unsafe { c::probe_strands_of(kind) }
 }
 
 pub fn is_key(kind: u8, letters: &Bytes, start: usize, strand: u8) -> u8 {

@@ -2,6 +2,7 @@
 ghost use mathlib.Core.Path.{_≡_};
 ghost use mathlib.Core.Bool.{cond};
 ghost use lib.ListN.{length};
+ghost use Rattle.words.specs.Kind.{strands};
 ghost use Rattle.ring.specs.Answers.{markedOf, keyedOf, firstRoom, secondRoom, keyPart, wroteOf, wroteRoom, isKey, comparedOf};
 ghost use Rattle.probe.specs.Told.{told, markedFields, checkedFields, comparedFields, keyFields};
 use super::tell;
@@ -81,6 +82,14 @@ pub extern "C" fn probe_write_reading(
     let a = ring::write_reading(letters, strand, start, room);
     tell::tell(values, &[a.place as u64]);
     a.number
+}
+
+// How many strands rings of a kind have, 0 for a kind that is none.
+#[no_mangle]
+pub extern "C" fn probe_strands_of(kind: u8) -> u8
+    ensures { λ r. ⌜ r ≡ strands kind ⌝ }
+{
+    ring::strands_of(kind)
 }
 
 // 1 where some permitted ring has these letters for its key, with this start and strand, else 0.

@@ -10,6 +10,9 @@ use denote.Ref.{now}
 use Rattle.ring.proofs.judge.check
 use Rattle.ring.proofs.judge.check.Kinds as check-kinds
 use Rattle.ring.proofs.judge.check.Reads as check-reads
+use Rattle.ring.proofs.judge.strands_of
+use Rattle.ring.proofs.judge.strands_of.Kinds as strands-of-kinds
+use Rattle.ring.proofs.judge.strands_of.Reads as strands-of-reads
 use Rattle.ring.proofs.factor.factors
 use Rattle.ring.proofs.factor.factors.Kinds as factors-kinds
 use Rattle.ring.proofs.factor.factors.Reads as factors-reads
@@ -51,6 +54,10 @@ same p q = p ∙ sym q
 pub check-determined : (κs : Lifetimes.Lfts 1) (a : World.ArgsD check.signature κs) (r s : World.ResD check.signature κs) (e f : Clauses.AtExit (Fn.endedOf 1 check-kinds.ps check-kinds.r) κs)
     → check-reads.Post κs a r e → check-reads.Post κs a s f → r ≡ s
 check-determined κs a r s e f p q = same p q
+
+pub strands-of-determined : (κs : Lifetimes.Lfts 0) (a : World.ArgsD strands_of.signature κs) (r s : World.ResD strands_of.signature κs) (e f : Clauses.AtExit (Fn.endedOf 0 strands-of-kinds.ps strands-of-kinds.r) κs)
+    → strands-of-reads.Post κs a r e → strands-of-reads.Post κs a s f → r ≡ s
+strands-of-determined κs a r s e f p q = same p q
 
 pub factors-determined : (κs : Lifetimes.Lfts 2) (a : World.ArgsD factors.signature κs) (r s : World.ResD factors.signature κs) (e f : Clauses.AtExit (Fn.endedOf 2 factors-kinds.ps factors-kinds.r) κs)
     → factors-reads.Post κs a r e → factors-reads.Post κs a s f → (r ≡ s) × (now (e .1 .1 .0) ≡ now (f .1 .1 .0))

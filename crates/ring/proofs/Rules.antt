@@ -18,7 +18,17 @@ abbrev pub Never : {A : Type 0} → (A → ℕ) → ℕ → List (Rule A) → Ty
 Never number k [] = Unit {0}
 Never number k (r ∷ rs) = (number (r .says) ≡ k → ⊥) × Never number k rs
 
+-- P holds of what every rule of a list says
+abbrev pub Each : {A : Type 0} → (A → Type 0) → List (Rule A) → Type 0
+Each P [] = Unit {0}
+Each P (r ∷ rs) = P (r .says) × Each P rs
+
 module _ {A : Type 0} where
+  -- what holds of every rule's answer and of the last one holds of the answer
+  pub judged-each : (P : A → Type 0) (rs : List (Rule A)) (d : A) → Each P rs → P d → P (judged rs d)
+  judged-each P [] d a z = z
+  judged-each P (r ∷ rs) d a z = by-test (r .when) (λ t. rw t (a .0)) (λ t. rw t (judged-each P rs d (a .1) z))
+
   pub clear-more : (rs more : List (Rule A)) (d : A) → Clear rs → judged (rs ++ more) d ≡ judged more d
   clear-more [] more d c = refl
   clear-more (r ∷ rs) more d c = rw (c .0) (clear-more rs more d (c .1))

@@ -1,6 +1,6 @@
 // The judging of a ring: one verdict, in the order 6, 1, 2, 3, 4.
 ghost use mathlib.Core.Path.{_≡_};
-ghost use Rattle.words.specs.Kind.{isLetter, stranded};
+ghost use Rattle.words.specs.Kind.{isLetter, stranded, strands};
 ghost use Rattle.ring.specs.Judging.{firstBad, verdict, numberOf, placeOf};
 ghost use Rattle.ring.specs.Answers.{checkedOf};
 use super::answer::Checked;
@@ -51,6 +51,19 @@ pub fn has_strands(kind: u8) -> bool
     ensures { λ r. ⌜ r ≡ stranded kind ⌝ }
 {
     kind == 1
+}
+
+// How many strands rings of a kind have, 0 for a kind that is none.
+pub fn strands_of(kind: u8) -> u8
+    ensures { λ r. ⌜ r ≡ strands kind ⌝ }
+{
+    if 1 < kind {
+        return 0;
+    }
+    if has_strands(kind) {
+        return 2;
+    }
+    1
 }
 
 // Whether a byte is a letter of the kind.

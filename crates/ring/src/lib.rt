@@ -24,6 +24,7 @@ pub use comparison::compare;
 pub use duels::duel;
 pub use factor::factors;
 pub use judge::check;
+pub use judge::strands_of;
 pub use keys::is_key;
 pub use keys::key;
 pub use keys::mark;

@@ -1,6 +1,6 @@
 -- Each number of a sheet exactly when: its own condition holds, and none before it in 01's order.
 -- Assumes nothing.
-use mathlib.Core.Path.{_≡_, ap}
+use mathlib.Core.Path.{_≡_, refl, ap}
 use mathlib.Core.Logic.{_↔_, _⊎_, inl, inr}
 use mathlib.Core.Bool.{true}
 use mathlib.Core.List.{List, []}
@@ -11,7 +11,7 @@ use lib.ListN.{length, take, drop}
 use Rattle.words.proofs.Search.{by-test, either}
 use Rattle.ring.specs.Rule.{rule}
 use Rattle.ring.specs.Judging.{most}
-use Rattle.ring.proofs.Rules.{Clear, exactly, clear-done, done-clear}
+use Rattle.ring.proofs.Rules.{Clear, exactly, clear-done, done-clear, judged-each}
 use Rattle.sheet.specs.declared.answer.Found.the-variants.{Refused}
 use Rattle.sheet.specs.Sheet.{isMade}
 use Rattle.sheet.specs.Trailer.{trailer, wayBack, marksIn, wrongMarks, badIn, sheetRules, sheetIn, foundOf, numberOf, placeOf}
@@ -60,11 +60,7 @@ module _ (b : List ℕ) where
   -- "the place (0 unless the number is 3)" (01)
   pub place-zero : (numberOf (foundOf b) ≡ 3 → ⊥) → placeOf (foundOf b) ≡ 0
   unfolding foundOf
-  place-zero n =
-      by-test (ltb (length b) 8) (λ t. rw t)
-      (λ a. by-test (wrongMarks (trailer b)) (λ t. rw (a, t))
-      (λ c. by-test (eqb (wayBack b) 0) (λ t. rw (a, c, t))
-      (λ d. by-test (ltb most (wayBack b)) (λ t. rw (a, c, d, t))
-      (λ e. by-test (ltb (length b - 8) (wayBack b)) (λ t. rw (a, c, d, e, t))
-      (λ f. by-test (ltb (badIn b) (length (marksIn b .letters))) (λ t. absurd (n (rw (a, c, d, e, f, t))))
-      (λ g. by-test (isMade (marksIn b)) (λ t. rw (a, c, d, e, f, g, t)) (λ t. rw (a, c, d, e, f, g, t))))))))
+  place-zero =
+      judged-each (λ f. (numberOf f ≡ 3 → ⊥) → placeOf f ≡ 0) (sheetRules b) (sheetIn b)
+      ((λ n. refl), ((λ n. refl), ((λ n. refl), ((λ n. refl), ((λ n. refl), ((λ n. absurd (n refl)), ((λ n. refl), tt)))))))
+      (λ n. refl)

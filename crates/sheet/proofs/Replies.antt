@@ -6,10 +6,11 @@ use mathlib.Core.List.{List, [], _∷_}
 use Prim.Native.Nat.{ℕ, _≤_, _<_, _+_, _-_}
 use native.Mathlib.Omega.{arith}
 use borrow.Author.Tests.{eq-eqb, ne-eqb, lt-ltb, le-ltb, lt-leb, le-leb}
-use lib.Dec.{ltb, eqb}
+use lib.Dec.{ltb, leb, eqb}
 use lib.ListN.{length, take, drop, getD, length-take, length-drop}
 use lib.Seq.{take-all, getD-drop}
-use Rattle.words.specs.Kind.{stranded}
+use Rattle.words.specs.Kind.{strands}
+use Rattle.words.proofs.Kind.{no-strand}
 use Rattle.words.proofs.Search.{by-test}
 use Rattle.ring.specs.Rule.{rule, judged}
 use Rattle.ring.specs.Judging.{most, verdict}
@@ -34,24 +35,11 @@ module _ (t : List ℕ) where
     wrong-second h = rw (eq-eqb (getD t 6 0) 0x52 x, ne-eqb (getD t 7 0) 0x47 h)
 
     module _ (y : getD t 7 0 ≡ 0x47) where
-      pub wrong-kind : 1 < getD t 5 0 → true ≡ wrongMarks t
+      -- behind a right tag: the strand is none of the n that the kind has
+      pub wrong-strand : (n : ℕ) → n ≡ strands (getD t 5 0) → leb n (getD t 4 0) ≡ wrongMarks t
       unfolding wrongMarks
-      wrong-kind h = rw (eq-eqb (getD t 6 0) 0x52 x, eq-eqb (getD t 7 0) 0x47 y, lt-leb (getD t 5 0) 1 h)
-
-      module _ (z : getD t 5 0 ≤ 1) where
-        pub wrong-strand : 1 < getD t 4 0 → true ≡ wrongMarks t
-        unfolding wrongMarks
-        wrong-strand h = rw (eq-eqb (getD t 6 0) 0x52 x, eq-eqb (getD t 7 0) 0x47 y, le-leb (getD t 5 0) 1 z, lt-ltb 1 (getD t 4 0) h)
-
-        pub wrong-both : getD t 4 0 ≡ 1 → not (eqb (getD t 5 0) 1) ≡ wrongMarks t
-        unfolding wrongMarks stranded
-        wrong-both e =
-            rw (eq-eqb (getD t 6 0) 0x52 x, eq-eqb (getD t 7 0) 0x47 y, le-leb (getD t 5 0) 1 z, le-ltb 1 (getD t 4 0) (omega arith), eq-eqb (getD t 4 0) 1 e)
-
-        pub wrong-none : getD t 4 0 ≤ 1 → (getD t 4 0 ≡ 1 → ⊥) → false ≡ wrongMarks t
-        unfolding wrongMarks
-        wrong-none h e =
-            rw (eq-eqb (getD t 6 0) 0x52 x, eq-eqb (getD t 7 0) 0x47 y, le-leb (getD t 5 0) 1 z, le-ltb 1 (getD t 4 0) h, ne-eqb (getD t 4 0) 1 e)
+      wrong-strand n e =
+          ap (λ i. leb i (getD t 4 0)) e ∙ no-strand (getD t 5 0) (getD t 4 0) ∙ rw (eq-eqb (getD t 6 0) 0x52 x, eq-eqb (getD t 7 0) 0x47 y)
 
 -- ---- the rules of the trailer alone
 

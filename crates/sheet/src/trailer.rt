@@ -17,7 +17,7 @@ pub fn pair(t: &[u8], at: usize) -> usize
     low + 256 * high
 }
 
-// Number 6 of a sheet: the tag, the kind and the strand of its trailer.
+// Number 6 of a sheet: a wrong tag, or a strand that its kind has not; a kind that is none has no strand.
 pub fn wrong(t: &[u8]) -> bool
     requires { ⌜ length (now t) ≡ 8 ⌝ }
     ensures { λ r. ⌜ r ≡ wrongMarks (now (t .entry)) ⌝ }
@@ -28,16 +28,7 @@ pub fn wrong(t: &[u8]) -> bool
     if t[7] != 0x47 {
         return true;
     }
-    if 1 < t[5] {
-        return true;
-    }
-    if 1 < t[4] {
-        return true;
-    }
-    if t[4] == 1 {
-        return t[5] != 1;
-    }
-    false
+    ring::strands_of(t[5]) <= t[4]
 }
 
 // What stands at the end of the bytes: the rules in the order 5, 6, 1, 2, 5, 3, 7.

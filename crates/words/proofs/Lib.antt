@@ -1,5 +1,6 @@
 pub mod Search
 pub mod Order
+pub mod Kind
 pub mod Ring
 pub mod Turn
 pub mod Strand

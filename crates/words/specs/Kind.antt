@@ -20,6 +20,10 @@ isLetter kind a = cond (eqb kind 0) true (isBase a)
 unfoldable pub stranded : ℕ → Bool
 stranded kind = eqb kind 1
 
+-- how many strands rings of a kind have, none if the kind is unknown: so a strand of a kind is a number below this
+unfoldable pub strands : ℕ → ℕ
+strands kind = cond (known kind) (cond (stranded kind) 2 1) 0
+
 -- the letter opposite: A and T exchanged, C and G exchanged (01)
 abbrev pub facing : ℕ → ℕ
 facing a = cond (eqb a 65) 84 (cond (eqb a 84) 65 (cond (eqb a 67) 71 (cond (eqb a 71) 67 a)))

@@ -81,6 +81,9 @@ fn every_key(c: &mut Comparison, alphabet: &[u8], longest: usize) {
 
 /// Every refusal, and rings that meet several: the first in the order decides.
 fn refusals(c: &mut Comparison) {
+    for kind in 0..=255 {
+        c.strands_of(kind);
+    }
     let mut rings: Vec<Vec<u8>> = vec![vec![], b"A".to_vec(), b"N".to_vec(), b"GANA".to_vec(), b"GATTACA".to_vec()];
     rings.push(b"acgt".to_vec());
     rings.push(b"ACGT\n".to_vec());

@@ -1,6 +1,6 @@
 -- What the calls on a permitted base ring answer: their numbers, and that they are small.
 -- Assumes nothing.
-use mathlib.Core.Path.{_≡_, refl, ap, _∙_}
+use mathlib.Core.Path.{_≡_, refl, ap, ap₂, _∙_}
 use mathlib.Core.Bool.{false}
 use mathlib.Core.List.{List}
 use Prim.Native.Nat.{ℕ, _≤_, _<_, _-_}
@@ -12,7 +12,6 @@ use lib.Seq.{take-append-seam}
 use Rattle.words.specs.Ring.{start}
 use Rattle.words.specs.Strand.{strand, keyStart}
 use Rattle.words.specs.Factor.{factorTable}
-use Rattle.words.specs.Prefix.{suffixTable, startTable}
 use Rattle.words.specs.Repeat.{repeat}
 use Rattle.words.specs.Duel.{startOf, pairs}
 use Rattle.words.proofs.Search.{by-test}
@@ -25,10 +24,8 @@ use Rattle.ring.specs.declared.answer.Factored.{Factored}
 use Rattle.ring.specs.declared.answer.Fought.{Fought}
 use Rattle.ring.specs.declared.answer.Repeated.{Repeated}
 use Rattle.ring.specs.declared.answer.Marked.{Marked}
-use Rattle.ring.specs.Judging.{Permitted, verdict, over}
-use Rattle.ring.specs.Answers.{fewer, factoredOf, factoredTable, suffixesTable, startsTable, foughtOf, repeatedOf, markedOf}
-use Rattle.words.proofs.Runs.{table-few}
-use Rattle.ring.proofs.Laid.{length-over}
+use Rattle.ring.specs.Judging.{Permitted, verdict, over, after}
+use Rattle.ring.specs.Answers.{fewer, factoredOf, foughtOf, repeatedOf, markedOf}
 use Rattle.ring.proofs.Exactly.{permitted-taken}
 
 -- what was written to the front of a room
@@ -60,17 +57,8 @@ module _ (w : List ℕ) (p : Permitted 1 w) where
 
   module _ (t x : List ℕ) (h : length w ≤ length t) where
     -- the front of a table that was filled
-    pub told-factors : x ≡ factoredTable 1 w t → take (length (factorTable w)) x ≡ factorTable w
-    told-factors e = ap (take (length (factorTable w))) (e ∙ rw (roomed (length t) h)) ∙ front (factorTable w) t
-
-    pub told-few : x ≡ factoredTable 1 w t → length (factorTable w) ≤ length x
-    told-few e = let q : x ≡ over (factorTable w) t = e ∙ rw (roomed (length t) h) in rw (q, length-over (factorTable w) t (omega (arith, table-few w))) (omega (arith, table-few w))
-
-    pub told-suffixes : x ≡ suffixesTable 1 w t → take (length (suffixTable w)) x ≡ suffixTable w
-    told-suffixes e = ap (take (length (suffixTable w))) (e ∙ rw (roomed (length t) h)) ∙ front (suffixTable w) t
-
-    pub told-starts : x ≡ startsTable 1 w t → take (length (startTable w)) x ≡ startTable w
-    told-starts e = ap (take (length (startTable w))) (e ∙ rw (roomed (length t) h)) ∙ front (startTable w) t
+    pub told-table : (new : List ℕ) (n : ℕ) → n ≡ length new → x ≡ after (verdict 1 w (fewer (length t) w)) new t → take n x ≡ new
+    told-table new n l e = ap₂ take l (e ∙ rw (roomed (length t) h)) ∙ front new t
 
   -- ---- all of it is small
 

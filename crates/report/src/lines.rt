@@ -1,8 +1,9 @@
 // The five lines that are printed for a ring.
 ghost use mathlib.Core.Path.{_≡_};
 ghost use Prim.Native.Nat.{_≤_};
-ghost use lib.ListN.{length};
+ghost use lib.ListN.{length, take};
 ghost use Rattle.ring.specs.Judging.{Permitted, over};
+ghost use Rattle.report.specs.Decimal.{row};
 ghost use Rattle.report.specs.Report.{headLine, factorLine, suffixLine, startLine, keyLine, fiveLines};
 use super::decimal::put_row;
 
@@ -22,6 +23,15 @@ fn put_head(room: &mut [u8], ring: &[u8]) -> usize
     put_row(room, &numbers, 10)
 }
 
+// The first `n` entries of a table, as a line.
+fn put_table(room: &mut [u8], table: &[u16], n: usize) -> usize
+    requires { ⌜ (n ≤ length (now table)) × (n ≤ 8192) × (49152 ≤ length (now room)) ⌝ }
+    ensures { λ r. ⌜ (r ≡ length (row 10 (take n (now (table .entry))))) × (r ≤ 49152) ⌝ }
+    ensures { λ _. ⌜ now (room .exit) ≡ over (row 10 (take n (now (table .entry)))) (now (room .entry)) ⌝ }
+{
+    put_row(room, &table[..n], 10)
+}
+
 // Line 2: the factor table.
 fn put_factors(room: &mut [u8], ring: &[u8]) -> usize
     requires { ⌜ Permitted 1 (now ring) × (49152 ≤ length (now room)) ⌝ }
@@ -30,8 +40,7 @@ fn put_factors(room: &mut [u8], ring: &[u8]) -> usize
 {
     let mut table = [0u16; 8192];
     let factored = ring::factors(ring, 1, &mut table);
-    let count = factored.count;
-    put_row(room, &table[..count], 10)
+    put_table(room, &table, factored.count)
 }
 
 // Line 3: the suffix table.
@@ -40,10 +49,9 @@ fn put_suffixes(room: &mut [u8], ring: &[u8]) -> usize
     ensures { λ r. ⌜ (r ≡ length (suffixLine (now (ring .entry)))) × (r ≤ 49152) ⌝ }
     ensures { λ _. ⌜ now (room .exit) ≡ over (suffixLine (now (ring .entry))) (now (room .entry)) ⌝ }
 {
-    let n = ring.len();
     let mut table = [0u16; 8192];
     ring::suffixes(ring, 1, &mut table);
-    put_row(room, &table[..n], 10)
+    put_table(room, &table, ring.len())
 }
 
 // Line 4: the start table.
@@ -52,10 +60,9 @@ fn put_starts(room: &mut [u8], ring: &[u8]) -> usize
     ensures { λ r. ⌜ (r ≡ length (startLine (now (ring .entry)))) × (r ≤ 49152) ⌝ }
     ensures { λ _. ⌜ now (room .exit) ≡ over (startLine (now (ring .entry))) (now (room .entry)) ⌝ }
 {
-    let n = ring.len();
     let mut table = [0u16; 8192];
     ring::starts(ring, 1, &mut table);
-    put_row(room, &table[..n], 10)
+    put_table(room, &table, ring.len())
 }
 
 // Line 5: the key's strand, its start, and the key, written straight from the ring.

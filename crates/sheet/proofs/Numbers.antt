@@ -13,7 +13,6 @@ use Rattle.ring.specs.Rule.{rule}
 use Rattle.ring.specs.Judging.{most}
 use Rattle.ring.proofs.Rules.{Clear, exactly, clear-done, done-clear, judged-each}
 use Rattle.sheet.specs.declared.answer.Found.the-variants.{Refused}
-use Rattle.sheet.specs.Sheet.{isMade}
 use Rattle.sheet.specs.Trailer.{trailer, wayBack, marksIn, wrongMarks, badIn, sheetRules, sheetIn, foundOf, numberOf, placeOf}
 use Rattle.sheet.specs.Reader.{restoredOf}
 

@@ -11,6 +11,7 @@ use lib.ListN.{length, take, drop, getD, set, length-drop, length-set, take-appe
 use lib.Seq.{getD-drop, getD-take, getD-set-same, getD-set-other, drop-set-lt, ext-getD, length-take-le}
 use Rattle.words.specs.Prefix.{leastSuffix, suffixTable}
 pub use Rattle.words.specs.Block.{Block}
+pub use Rattle.words.specs.Fill.{Filled}
 use Rattle.words.proofs.Search.{up-to}
 use Rattle.words.proofs.Prefix.{leastSuffix-is, length-suffixTable, suffixTable-at}
 use Rattle.words.proofs.Scan.{Scan, scan-first, scan-greater, scan-equal, scan-end, scan-one}
@@ -74,12 +75,7 @@ module _ (w : List ℕ) (m p l : ℕ) (b : Block w m p l) where
       let y = entry-at (l - p) (omega arith) (omega (arith, b .inside)) in
       omega (arith, entry-at l (omega arith) (b .inside), rw x at y, entry-over (drop m w) _ _ (b .scan) (omega arith), b .order)
 
--- ---- the table: its first l entries are right, and what lies beyond the n entries is as it was in o
-
-pub record Filled (w o t : List ℕ) (l : ℕ) : Type 0 where
-  pub entry : (i : ℕ) → i < l → getD t i 0 ≡ leastSuffix (take (suc i) w)
-  pub size : length t ≡ length o
-  pub beyond : drop (length w) t ≡ drop (length w) o
+-- ---- the table
 
 pub filled-none : (w o : List ℕ) → Filled w o o 0
 filled-none w o = record { entry = λ i h. absurd (omega arith); size = refl; beyond = refl }

@@ -7,12 +7,13 @@ use Prim.Native.Nat.{ℕ, suc, _≤_, _<_, _+_, _-_, _%_}
 use native.Mathlib.Omega.{arith}
 use native.Mathlib.Numerals.{add-one}
 use native.Mathlib.Nat.{mod-le}
-use lib.ListN.{length, take, drop, getD, set, length-drop, length-set, take-append-drop}
-use lib.Seq.{getD-drop, getD-take, getD-set-same, getD-set-other, drop-set-lt, ext-getD, length-take-le}
+use lib.ListN.{length, take, drop, getD, set, length-drop, take-append-drop}
+use lib.Seq.{getD-drop, getD-take, getD-set-same, getD-set-other, ext-getD, length-take-le}
 use Rattle.words.specs.Prefix.{leastSuffix, suffixTable}
 pub use Rattle.words.specs.Block.{Block}
 pub use Rattle.words.specs.Fill.{Filled}
 use Rattle.words.proofs.Search.{up-to}
+use Rattle.words.proofs.Match.{kept-same, kept-set, kept-on}
 use Rattle.words.proofs.Prefix.{leastSuffix-is, length-suffixTable, suffixTable-at}
 use Rattle.words.proofs.Scan.{Scan, scan-first, scan-greater, scan-equal, scan-end, scan-one}
 use Rattle.words.proofs.Block.{Head, head-next, entry-head, entry-word, entry-over}
@@ -78,16 +79,16 @@ module _ (w : List ℕ) (m p l : ℕ) (b : Block w m p l) where
 -- ---- the table
 
 pub filled-none : (w o : List ℕ) → Filled w o o 0
-filled-none w o = record { entry = λ i h. absurd (omega arith); size = refl; beyond = refl }
+filled-none w o = record { entry = λ i h. absurd (omega arith); kept = kept-same (length w) o }
 
 pub filled-less : (w o t : List ℕ) (l k : ℕ) → Filled w o t l → k ≤ l → Filled w o t k
-filled-less w o t l k f h = record { entry = λ i x. f .entry i (omega arith); size = f .size; beyond = f .beyond }
+filled-less w o t l k f h = record { entry = λ i x. f .entry i (omega arith); kept = f .kept }
 
 pub filled-again : (w o t : List ℕ) (l : ℕ) → Filled w o t l → Filled w t t l
-filled-again w o t l f = record { entry = f .entry; size = refl; beyond = refl }
+filled-again w o t l f = record { entry = f .entry; kept = kept-same (length w) t }
 
 pub filled-on : (w o u t : List ℕ) (k l : ℕ) → Filled w o u k → Filled w u t l → Filled w o t l
-filled-on w o u t k l f g = record { entry = g .entry; size = g .size ∙ f .size; beyond = g .beyond ∙ f .beyond }
+filled-on w o u t k l f g = record { entry = g .entry; kept = kept-on (length w) o u t (f .kept) (g .kept) }
 
 -- an entry is no more than its place
 pub filled-below : (w o t : List ℕ) (l i : ℕ) → Filled w o t l → i < l → i < length w → getD t i 0 ≤ i
@@ -101,8 +102,7 @@ module _ (w o t : List ℕ) (l : ℕ) (f : Filled w o t l) (g : l < length w) (s
     entry = λ i x. up-to (λ i. getD (set t l v) i 0 ≡ leastSuffix (take (suc i) w)) l
         (λ j y. getD-set-other t l j v 0 (λ q. omega arith) ∙ f .entry j y)
         (getD-set-same t l v 0 s ∙ sym e ∙ rw add-one) i (omega arith);
-    size = length-set t l v ∙ f .size;
-    beyond = drop-set-lt (length w) t l v g ∙ f .beyond;
+    kept = kept-set (length w) o t l v (f .kept) g;
   }
 
   -- the first entry of a block
@@ -124,8 +124,8 @@ module _ (w o t : List ℕ) (l : ℕ) (f : Filled w o t l) (g : l < length w) (s
 -- the end: the suffix table, and behind it what was there
 pub filled-all : (w o t : List ℕ) → Filled w o t (length w) → length w ≤ length o → t ≡ suffixTable w ++ drop (length w) o
 filled-all w o t f h =
-    let n : length (take (length w) t) ≡ length w = length-take-le (length w) t (rw (f .size) h) in
+    let n : length (take (length w) t) ≡ length w = length-take-le (length w) t (rw (f .kept .size) h) in
     let e : take (length w) t ≡ suffixTable w =
     ext-getD 0 _ _ (n ∙ sym (length-suffixTable w))
     (λ i l. let x : i < length w = rw n at l in getD-take (length w) t i 0 x ∙ f .entry i x ∙ sym (suffixTable-at w i x)) in
-    sym (take-append-drop (length w) t) ∙ rw (e, f .beyond)
+    sym (take-append-drop (length w) t) ∙ rw (e, f .kept .beyond)

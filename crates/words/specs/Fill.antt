@@ -3,11 +3,11 @@
 use mathlib.Core.Path.{_≡_}
 use mathlib.Core.List.{List}
 use Prim.Native.Nat.{ℕ, suc, _<_}
-use lib.ListN.{length, take, drop, getD}
+use lib.ListN.{length, take, getD}
 use Rattle.words.specs.Prefix.{leastSuffix}
+use Rattle.words.specs.Match.{Kept}
 
 -- a table t that was o: its first l entries are those of the suffix table of w, and beyond the letters of w it is as it was
 pub record Filled (w o t : List ℕ) (l : ℕ) : Type 0 where
   pub entry : (i : ℕ) → i < l → getD t i 0 ≡ leastSuffix (take (suc i) w)
-  pub size : length t ≡ length o
-  pub beyond : drop (length w) t ≡ drop (length w) o
+  pub kept : Kept (length w) o t

@@ -112,7 +112,7 @@ sub-result-2 : tie.Need-sub-result-2 Inv-loop μ-loop
 sub-result-2 c = omega (arith, mod-le (c .before .loop .l - c .before .before .args .m) (c .before .loop .p))
 
 same-length : tie.Need-same-length Inv-loop μ-loop
-same-length c = c .before .loop .inv .1 .size ∙ simp length-set
+same-length c = c .before .loop .inv .1 .kept .size ∙ simp length-set
 
 returns : tie.Need-returns Inv-loop μ-loop
 returns c =

@@ -21,7 +21,7 @@ loop-holds c = (head-first _, filled-none _ _)
 fill-block-requires : tie.Need-fill-block-requires Inv-loop μ-loop
 fill-block-requires c κs =
     let i = c .before .before .loop .inv in
-    ((search needs, omega (arith, i .1 .size), search needs), (i .0, filled-again _ _ _ _ (i .1)))
+    ((search needs, omega (arith, i .1 .kept .size), search needs), (i .0, filled-again _ _ _ _ (i .1)))
 
 loop-less : tie.Need-loop-less Inv-loop μ-loop
 loop-less c = search needs

@@ -5,7 +5,6 @@ use mathlib.Core.Bool.{false}
 use mathlib.Core.List.{List}
 use Prim.Native.Nat.{ℕ, _≤_, _<_, _-_}
 use native.Mathlib.Omega.{arith}
-use borrow.Author.Tests.{le-ltb}
 use lib.Dec.{eqb}
 use lib.ListN.{length, take, getD}
 use lib.Seq.{take-append-seam}
@@ -26,7 +25,7 @@ use Rattle.ring.specs.declared.answer.Repeated.{Repeated}
 use Rattle.ring.specs.declared.answer.Marked.{Marked}
 use Rattle.ring.specs.Judging.{Permitted, verdict, over, after}
 use Rattle.ring.specs.Answers.{fewer, factoredOf, foughtOf, repeatedOf, markedOf}
-use Rattle.ring.proofs.Exactly.{permitted-taken}
+use Rattle.ring.proofs.Exactly.{permitted-taken, roomed}
 
 -- what was written to the front of a room
 pub front : (new old : List ℕ) → take (length new) (over new old) ≡ new
@@ -40,9 +39,6 @@ module _ (w : List ℕ) (p : Permitted 1 w) where
   alone : verdict 1 w false ≡ Taken
   alone = permitted-taken 1 w false p refl
 
-  roomed : (size : ℕ) → length w ≤ size → verdict 1 w (fewer size w) ≡ Taken
-  roomed size h = permitted-taken 1 w (fewer size w) p (le-ltb size (length w) h)
-
   pub told-fought : (r : Fought) → r ≡ foughtOf 1 w → (r .start ≡ start w) × (r .pairs ≡ pairs w)
   told-fought r e = rw (e, alone) (ap startOf (duels-end w (p .some)), refl)
 
@@ -53,12 +49,12 @@ module _ (w : List ℕ) (p : Permitted 1 w) where
   told-marked r e = rw (e, alone) (refl, refl)
 
   pub told-factored : (r : Factored) (size : ℕ) → length w ≤ size → r ≡ factoredOf 1 w size → r .count ≡ length (factorTable w)
-  told-factored r size h e = rw (e, roomed size h)
+  told-factored r size h e = rw (e, roomed 1 w size p h)
 
   module _ (t x : List ℕ) (h : length w ≤ length t) where
     -- the front of a table that was filled
     pub told-table : (new : List ℕ) (n : ℕ) → n ≡ length new → x ≡ after (verdict 1 w (fewer (length t) w)) new t → take n x ≡ new
-    told-table new n l e = ap₂ take l (e ∙ rw (roomed (length t) h)) ∙ front new t
+    told-table new n l e = ap₂ take l (e ∙ rw (roomed 1 w (length t) p h)) ∙ front new t
 
   -- ---- all of it is small
 

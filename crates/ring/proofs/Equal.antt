@@ -1,10 +1,16 @@
--- The test whether two lists are the same.
+-- The test whether two lists are the same, and whether two readings are.
 -- Assumes nothing.
-use mathlib.Core.Path.{_≡_, refl, sym}
+use mathlib.Core.Path.{_≡_, refl, sym, _∙_}
 use mathlib.Core.Bool.{true, false, true≢false}
 use mathlib.Core.List.{List, [], _∷_}
-use Prim.Native.Nat.{ℕ}
-use borrow.Author.Tests.{eq-eqb, eqb-true}
+use Prim.Native.Nat.{ℕ, _≤_}
+use native.Mathlib.Omega.{arith}
+use borrow.Author.Tests.{eq-eqb, ne-eqb, eqb-true}
+use lib.Dec.{eqb}
+use lib.ListN.{length}
+use Rattle.words.specs.Ring.{reading}
+use Rattle.words.specs.Paired.{Met}
+use Rattle.words.proofs.Paired.{same-at, differ-at}
 use Rattle.words.proofs.Search.{by-test, both-true}
 use Rattle.ring.specs.Answers.{equal}
 
@@ -23,3 +29,11 @@ equal-same (a ∷ u) (b ∷ v) e = let p = both-true _ _ e in cc (eqb-true a b (
 
 pub equal-false : {u v : List ℕ} → (u ≡ v → ⊥) → equal u v ≡ false
 equal-false {u} {v} n = by-test (equal u v) (λ t. absurd (n (equal-same u v t))) (λ t. t)
+
+-- two readings are the same just where all their pairs agree
+pub equal-met : (u v : List ℕ) (p q k : ℕ) → length u ≡ length v → p ≤ length u → q ≤ length v → Met u v p q k
+    → eqb k (length u) ≡ equal (reading u p) (reading v q)
+equal-met u v p q k n x y m =
+    by-test (equal (reading u p) (reading v q))
+    (λ t. rw (t, eq-eqb k (length u) (omega (arith, m .within, differ-at u v p q k n x y m (equal-same _ _ t)))))
+    (λ t. rw (t, ne-eqb k (length u) (λ e. true≢false (sym (equal-true (same-at u v p q k n x y m (omega arith))) ∙ t))))

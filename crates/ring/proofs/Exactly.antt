@@ -5,13 +5,14 @@ use mathlib.Core.Bool.{Bool, true, false, true≢false}
 use mathlib.Core.List.{List, [], _∷_}
 use Prim.Native.Nat.{ℕ, zero, suc, _≤_, _<_}
 use native.Mathlib.Omega.{arith}
-use borrow.Author.Tests.{leb-true, leb-false, eqb-true}
+use borrow.Author.Tests.{leb-true, leb-false, eqb-true, le-ltb}
 use lib.ListN.{length, getD}
 use Rattle.words.specs.Kind.{known, isLetter}
 use Rattle.words.proofs.Search.{by-test, either, lt-or-ge}
 use Rattle.ring.specs.declared.judge.Verdict.{Verdict}
 use Rattle.ring.specs.declared.judge.Verdict.the-variants.{Taken, Kind, Empty, Long, Letter, Short}
 use Rattle.ring.specs.Judging.{most, firstBad, Permitted, numberOf, placeOf, taken, verdict, Given, unknown, none, many, letter, lacking, done}
+use Rattle.ring.specs.Answers.{fewer}
 use Rattle.ring.proofs.Judging.{says-kind, says-empty, says-long, says-letter, says-short, says-taken}
 
 -- ---- the first position that has no letter
@@ -111,3 +112,7 @@ module _ (kind : ℕ) (w : List ℕ) (short : Bool) where
   pub permitted-short : Permitted kind w → short ≡ true → verdict kind w short ≡ Short
   permitted-short p e =
       says-short kind w short (leb-true kind 1 (p .kinds)) (λ z. omega (arith, p .some)) (p .within) (good-all kind w (p .letters)) e
+
+-- a table or room of n entries or more is room enough
+pub roomed : (kind : ℕ) (w : List ℕ) (size : ℕ) → Permitted kind w → length w ≤ size → verdict kind w (fewer size w) ≡ Taken
+roomed kind w size p h = permitted-taken kind w (fewer size w) p (le-ltb size (length w) h)

@@ -1,7 +1,7 @@
 -- The key's marks and both rooms, by the verdict and the kind.
 -- Assumes nothing.
-use mathlib.Core.Path.{_≡_, refl, sym, ap, _∙_}
-use mathlib.Core.Bool.{Bool, true, false, _&&_, _||_, true≢false}
+use mathlib.Core.Path.{_≡_, sym, ap, _∙_}
+use mathlib.Core.Bool.{true, false, _&&_}
 use mathlib.Core.List.{List}
 use Prim.Native.Nat.{ℕ, _≤_}
 use borrow.Author.Tests.{ltb-false}
@@ -10,7 +10,7 @@ use lib.ListN.{length}
 use Rattle.words.specs.Kind.{stranded}
 use Rattle.words.specs.Ring.{reading, start, lowest}
 use Rattle.words.specs.Strand.{opposite}
-use Rattle.words.proofs.Search.{by-test}
+use Rattle.words.proofs.Search.{by-test, neither}
 use Rattle.ring.specs.declared.judge.Verdict.{Verdict}
 use Rattle.ring.specs.declared.judge.Verdict.the-variants.{Taken}
 use Rattle.ring.specs.declared.answer.Marked.{Marked}
@@ -22,20 +22,16 @@ use Rattle.ring.proofs.Exactly.{taken-permitted}
 use Rattle.ring.proofs.Marks.{marked-refused, marked-plain, marked-stranded}
 
 -- the rooms that a taken ring has
-or-none : (s t : Bool) → (s || t) ≡ false → (s ≡ false) × (t ≡ false)
-or-none true t e = absurd (true≢false e)
-or-none false t e = (refl, e)
-
 module _ (kind : ℕ) (w : List ℕ) (a b : ℕ) (e : keyVerdict kind w a b ≡ Taken) where
   pub key-permitted : Permitted kind w
   key-permitted = taken-permitted kind w _ e .0
 
   pub first-fits : length w ≤ a
-  first-fits = ltb-false a (length w) (or-none _ _ (taken-permitted kind w _ e .1) .0)
+  first-fits = ltb-false a (length w) (neither _ _ (taken-permitted kind w _ e .1) .0)
 
   pub second-fits : stranded kind ≡ true → length w ≤ b
   second-fits k =
-      let t = or-none (ltb a (length w)) (stranded kind && ltb b (length w)) (taken-permitted kind w (roomsShort kind w a b) e .1) .1 in
+      let t = neither (ltb a (length w)) (stranded kind && ltb b (length w)) (taken-permitted kind w (roomsShort kind w a b) e .1) .1 in
       ltb-false b (length w) (simp k at t)
 
 module _ (kind : ℕ) (w first second : List ℕ) where

@@ -5,7 +5,6 @@ use mathlib.Core.Path.{_≡_, refl, ap, _∙_}
 use mathlib.Core.List.{List}
 use Prim.Native.Nat.{ℕ, suc, _≤_, _<_, _+_, _-_, _*_}
 use native.Mathlib.Omega.{arith}
-use borrow.Author.Tests.{le-ltb}
 use lib.ListN.{length, take, getD, List·getD-append}
 use lib.Seq.{take-all}
 use Rattle.words.specs.Ring.{IsStart, start}
@@ -15,21 +14,17 @@ use Rattle.words.proofs.Ring.{start-is}
 use Rattle.words.proofs.Route.{route-is}
 use Rattle.words.proofs.Prefix.{length-startTable, startTable-at}
 use Rattle.words.proofs.Pairs.{duels-end, pairs-few, pairs-three}
-use Rattle.ring.specs.declared.judge.Verdict.the-variants.{Taken}
-use Rattle.ring.specs.Judging.{Permitted, verdict}
-use Rattle.ring.specs.Answers.{fewer, factoredOf, startsTable, foughtOf}
-use Rattle.ring.proofs.Exactly.{permitted-taken}
+use Rattle.ring.specs.Judging.{Permitted}
+use Rattle.ring.specs.Answers.{factoredOf, startsTable, foughtOf}
+use Rattle.ring.proofs.Exactly.{permitted-taken, roomed}
 
 module _ (kind : ℕ) (w : List ℕ) (p : Permitted kind w) where
-  roomed : (size : ℕ) → length w ≤ size → verdict kind w (fewer size w) ≡ Taken
-  roomed size h = permitted-taken kind w (fewer size w) p (le-ltb size (length w) h)
-
   -- the start that every route gives is the ring's
   pub start-first : IsStart w (start w)
   start-first = start-is w (p .some)
 
   pub route-factors : (size : ℕ) → length w ≤ size → factoredOf kind w size .start ≡ start w
-  route-factors size h = rw (roomed size h) (route-is w (p .some))
+  route-factors size h = rw (roomed kind w size p h) (route-is w (p .some))
 
   pub route-duels : foughtOf kind w .start ≡ start w
   route-duels = rw (permitted-taken kind w _ p refl) (ap startOf (duels-end w (p .some)))
@@ -38,7 +33,7 @@ module _ (kind : ℕ) (w : List ℕ) (p : Permitted kind w) where
   route-table t h =
       let n : length w - 1 < length w = omega (arith, p .some) in
       let s : suc (length w - 1) ≡ length w = omega (arith, p .some) in
-      rw (roomed (length t) h)
+      rw (roomed kind w (length t) p h)
       (List·getD-append (startTable w) _ 0 (length w - 1) (rw length-startTable n)
       ∙ startTable-at w (length w - 1) n ∙ ap (λ i. start (take i w)) s ∙ ap start (take-all (length w) w (omega arith)))
 

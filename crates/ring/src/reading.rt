@@ -5,6 +5,7 @@ ghost use Prim.Native.Nat.{_+_, _<_, _≤_};
 ghost use lib.Dec.{ltb};
 ghost use lib.ListN.{length};
 ghost use Rattle.words.specs.Ring.{around, reading};
+ghost use Rattle.words.specs.Paired.{Met};
 ghost use Rattle.words.specs.Least.{better};
 ghost use Rattle.words.specs.Order.{before};
 ghost use Rattle.words.specs.Strand.{opposite};
@@ -22,22 +23,32 @@ pub fn letter(s: &[u8], i: usize) -> u8
     if i < s.len() { s[i] } else { s[i - s.len()] }
 }
 
+// How many letters agree, of the reading at `i` of `u` and of that at `j` of `v`, a ring as long, before two differ.
+fn meet(u: &[u8], i: usize, v: &[u8], j: usize) -> usize
+    requires { ⌜ (i < length (now u)) × (j < length (now v)) × (length (now u) ≡ length (now v)) ⌝ }
+    ensures { λ r. ⌜ Met (now (u .entry)) (now (v .entry)) i j r ⌝ }
+{
+    let n = u.len();
+    let mut k: usize = 0;
+    while k < n {
+        if letter(u, i + k) != letter(v, j + k) {
+            break;
+        }
+        k += 1;
+    }
+    k
+}
+
 // Whether the reading at `i` of `u` comes before the reading at `j` of `v`, a ring as long.
 pub fn lower(u: &[u8], i: usize, v: &[u8], j: usize) -> bool
     requires { ⌜ (i < length (now u)) × (j < length (now v)) × (length (now u) ≡ length (now v)) ⌝ }
     ensures { λ r. ⌜ r ≡ before (reading (now (u .entry)) i) (reading (now (v .entry)) j) ⌝ }
 {
-    let n = u.len();
-    let mut k: usize = 0;
-    while k < n {
-        let a = letter(u, i + k);
-        let b = letter(v, j + k);
-        if a != b {
-            return a < b;
-        }
-        k += 1;
+    let k = meet(u, i, v, j);
+    if k == u.len() {
+        return false;
     }
-    false
+    letter(u, i + k) < letter(v, j + k)
 }
 
 // Of two positions of a ring the one whose reading is lower, the second if they are equal.
@@ -59,17 +70,7 @@ pub fn same_reading(u: &[u8], i: usize, v: &[u8], j: usize) -> bool
     requires { ⌜ (i < length (now u)) × (j < length (now v)) × (length (now u) ≡ length (now v)) ⌝ }
     ensures { λ r. ⌜ r ≡ equal (reading (now (u .entry)) i) (reading (now (v .entry)) j) ⌝ }
 {
-    let n = u.len();
-    let mut k: usize = 0;
-    while k < n {
-        let a = letter(u, i + k);
-        let b = letter(v, j + k);
-        if a != b {
-            return false;
-        }
-        k += 1;
-    }
-    true
+    meet(u, i, v, j) == u.len()
 }
 
 // Writes the reading at `at` to the front of a room, as two straight runs.

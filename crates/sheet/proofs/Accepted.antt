@@ -2,7 +2,7 @@
 -- Assumes nothing.
 use mathlib.Core.Path.{_≡_, refl, sym, ap, _∙_, subst}
 use mathlib.Core.Logic.{_↔_}
-use mathlib.Core.Bool.{Bool, true, false, not, _||_, true≢false}
+use mathlib.Core.Bool.{true, false, not}
 use mathlib.Core.List.{List, [], _∷_, _++_}
 use Prim.Native.Nat.{ℕ, _≤_, _<_, _+_, _-_, _*_}
 use native.Mathlib.Omega.{arith}
@@ -10,7 +10,7 @@ use borrow.Author.Tests.{eqb-true, eqb-false, ltb-false, not-false}
 use lib.ListN.{length, drop, getD, length-take, length-drop, take-append-drop}
 use lib.Seq.{drop-drop, getD-drop}
 use Rattle.words.specs.Kind.{known}
-use Rattle.words.proofs.Search.{by-test}
+use Rattle.words.proofs.Search.{by-test, neither}
 use Rattle.ring.specs.Judging.{Permitted}
 use Rattle.ring.proofs.Rules.{Clear, clear-join, clear-done, number-clear, done-clear, first-holds}
 use Rattle.ring.proofs.Exactly.{good-at}
@@ -21,10 +21,6 @@ use Rattle.sheet.proofs.Rounds.{marks-path, marks-bytes}
 
 -- ---- where 6 is not given
 
-or-false : (s t : Bool) → (s || t) ≡ false → (s ≡ false) × (t ≡ false)
-or-false false t e = (refl, e)
-or-false true t e = absurd (true≢false e)
-
 -- the tag is right and the kind is known
 pub record Right (t : List ℕ) : Type 0 where
   pub first : getD t 6 0 ≡ 0x52
@@ -34,10 +30,10 @@ pub record Right (t : List ℕ) : Type 0 where
 pub right-marks : (t : List ℕ) → wrongMarks t ≡ false → Right t
 unfolding wrongMarks
 right-marks t e =
-    let a = or-false _ _ e in
-    let b = or-false _ _ (a .0) in
-    let c = or-false _ _ (b .0) in
-    let d = or-false _ _ (c .0) in
+    let a = neither _ _ e in
+    let b = neither _ _ (a .0) in
+    let c = neither _ _ (b .0) in
+    let d = neither _ _ (c .0) in
     record { first = eqb-true _ _ (not-false _ (d .0)); second = eqb-true _ _ (not-false _ (d .1)); kind = not-false _ (c .1) }
 
 -- ---- the trailer's bytes

@@ -11,13 +11,10 @@ use lib.ListN.{length, getD}
 use lib.Seq.{ext-getD}
 use Rattle.words.specs.Order.{_≺_, before}
 use Rattle.words.specs.Ring.{reading, around}
+use Rattle.words.specs.Paired.{Paired, Met}
 use Rattle.words.proofs.Search.{either, lt-or-ge}
 use Rattle.words.proofs.Order.{lower-at, irrefl, lt-le, before-true, before-false}
 use Rattle.words.proofs.Turn.{length-reading, reading-at}
-
--- the letters of u from p on and of v from q on agree below k
-abbrev pub Paired : List ℕ → List ℕ → ℕ → ℕ → ℕ → Type 0
-Paired u v p q k = (j : ℕ) → j < k → around u (p + j) ≡ around v (q + j)
 
 -- a lesser letter at k decides
 pub paired-below : (u v : List ℕ) (p q k : ℕ) → length u ≡ length v → p ≤ length u → q ≤ length v → k < length u → Paired u v p q k
@@ -27,21 +24,23 @@ paired-below u v p q k n x y h m l =
     (λ j i. rw (reading-at u p j x (omega arith), reading-at v q j y (omega arith)) (m j i))
     (rw (reading-at u p k x h, reading-at v q k y (omega arith)) l)
 
-module _ (u v : List ℕ) (p q k : ℕ) (n : length u ≡ length v) (x : p ≤ length u) (y : q ≤ length v) (a : Paired u v p q k) where
+module _ (u v : List ℕ) (p q k : ℕ) (n : length u ≡ length v) (x : p ≤ length u) (y : q ≤ length v) (a : Met u v p q k) where
   -- letters that differ at k
-  pub before-at : k < length u → (c d : ℕ) → c ≡ around u (p + k) → d ≡ around v (q + k) → (c ≡ d → ⊥) → ltb c d ≡ before (reading u p) (reading v q)
-  before-at h c d e f o =
-      either (lt-or-ge c d) (λ l. rw (lt-ltb c d l, before-true (paired-below u v p q k n x y h a (rw (← e, ← f) l))))
-      (λ l. rw (le-ltb c d l, before-false _ _ (lt-le (paired-below v u q p k (sym n) y x (omega arith) (λ j i. sym (a j i)) (omega arith)))))
-
-  pub differ-at : k < length u → (around u (p + k) ≡ around v (q + k) → ⊥) → reading u p ≡ reading v q → ⊥
-  differ-at h o e = o (sym (reading-at u p k x h) ∙ ap (λ z. getD z k 0) e ∙ reading-at v q k y (omega arith))
+  pub before-at : k < length u → (c d : ℕ) → c ≡ around u (p + k) → d ≡ around v (q + k) → ltb c d ≡ before (reading u p) (reading v q)
+  before-at h c d e f =
+      either (lt-or-ge c d) (λ l. rw (lt-ltb c d l, before-true (paired-below u v p q k n x y h (a .agree) (rw (← e, ← f) l))))
+      (λ l. let o : c ≡ d → ⊥ = λ z. a .differs h (sym e ∙ z ∙ f) in
+      rw (le-ltb c d l, before-false _ _ (lt-le (paired-below v u q p k (sym n) y x (omega arith) (λ j i. sym (a .agree j i)) (omega arith)))))
 
   -- n equal pairs
   pub same-at : length u ≤ k → reading u p ≡ reading v q
   same-at h =
       let m : length (reading u p) ≡ length u = length-reading u p x in
-      ext-getD 0 _ _ (m ∙ n ∙ sym (length-reading v q y)) (λ j l. let i : j < length u = rw m at l in reading-at u p j x i ∙ a j (omega arith) ∙ sym (reading-at v q j y (omega arith)))
+      ext-getD 0 _ _ (m ∙ n ∙ sym (length-reading v q y)) (λ j l. let i : j < length u = rw m at l in reading-at u p j x i ∙ a .agree j (omega arith) ∙ sym (reading-at v q j y (omega arith)))
+
+  pub differ-at : reading u p ≡ reading v q → length u ≤ k
+  differ-at e =
+      either (lt-or-ge k (length u)) (λ h. absurd (a .differs h (sym (reading-at u p k x h) ∙ ap (λ z. getD z k 0) e ∙ reading-at v q k y (omega arith)))) (λ h. h)
 
   pub before-same : length u ≤ k → false ≡ before (reading u p) (reading v q)
   before-same h = rw (same-at h) (sym (before-false (reading v q) (reading v q) irrefl))

@@ -12,6 +12,7 @@ pub mod Repeat
 pub mod Duel
 pub mod Table
 -- What only the contracts of inner functions cite
+pub mod Paired
 pub mod Block
 pub mod Fill
 pub mod Start

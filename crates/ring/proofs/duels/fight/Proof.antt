@@ -7,7 +7,7 @@ use borrow.Author.Needs.{needs}
 use borrow.Author.Count.{below-more}
 use Rattle.words.specs.Duel.{startOf}
 use Rattle.words.proofs.Search.{either}
-use Rattle.words.proofs.Beaten.{Agree, Met}
+use Rattle.words.specs.Paired.{Paired, Met}
 use Rattle.words.proofs.Duel.{Run, run-first, run-out, run-same, run-moved}
 use Rattle.ring.proofs.duels.fight.Statement.{statement}
 use Rattle.ring.proofs.duels.fight.Tie as tie
@@ -17,7 +17,7 @@ use Rattle.ring.proofs.reading.letter.Reads as letter-reads
 use Rattle.ring.proofs.duels.moved.Reads as moved-reads
 
 abbrev Inv-scan : tie.InvT-scan
-Inv-scan s n p q c k₀ k = (k ≤ n) × Agree s p q k
+Inv-scan s n p q c k₀ k = (k ≤ n) × Paired s s p q k
 
 abbrev μ-scan : tie.MeasureT-scan
 μ-scan s n p q c k₀ k = n - k
@@ -32,7 +32,7 @@ abbrev μ-duels : tie.MeasureT-duels
 abbrev Scanned : Type 0
 Scanned = lts.Joined1 (letter-reads.Asked, letter-reads.Learnt, moved-reads.Asked, moved-reads.Learnt) reads.Pre reads.Post Inv-scan μ-scan Inv-duels μ-duels
 
-met-at : (c : Scanned) → Met (c .before .before .before .before .before .args .ring .now) (c .before .before .before .duels .p) (c .before .before .before .duels .q) (c .if1 .met)
+met-at : (c : Scanned) → Met (c .before .before .before .before .before .args .ring .now) (c .before .before .before .before .before .args .ring .now) (c .before .before .before .duels .p) (c .before .before .before .duels .q) (c .if1 .met)
 met-at c =
     let i = c .before .scan .inv in
     either (c .if1 .came) (λ w. record { within = omega (arith, w .1); agree = λ j h. i .1 j (omega (arith, w .0 .taken, w .1)); differs = λ l. absurd (omega (arith, w .1)) })

@@ -1,65 +1,15 @@
--- `ring::reading::same_reading` meets its contract: the letters agree up to k.
+-- `ring::reading::same_reading` meets its contract.
 -- Assumes nothing.
 use borrow.Author.Needs.{needs}
-use Prim.Native.Nat.{_≤_, _-_}
-use mathlib.Core.Path.{sym, _∙_}
-use borrow.Author.Count.{below-more}
-use Rattle.words.proofs.Paired.{Paired, differ-at, same-at}
-use Rattle.ring.proofs.Equal.{equal-true, equal-false}
+use Rattle.ring.proofs.Equal.{equal-met}
 use Rattle.ring.proofs.reading.same_reading.Statement.{statement}
 use Rattle.ring.proofs.reading.same_reading.Tie as tie
 
-abbrev Inv-loop : tie.InvT-loop
-Inv-loop u i v j n k₀ k = (k ≤ n) × Paired u v i j k
+meet-requires : tie.Need-meet-requires
+meet-requires c κs = search needs
 
-abbrev μ-loop : tie.MeasureT-loop
-μ-loop u i v j n k₀ k = n - k
-
-loop-holds : tie.Need-loop-holds Inv-loop μ-loop
-loop-holds c = search needs
-
-add-letter : tie.Need-add-letter Inv-loop μ-loop
-add-letter c = search needs
-
-letter-requires : tie.Need-letter-requires Inv-loop μ-loop
-letter-requires c κs = search needs
-
-add-letter-2 : tie.Need-add-letter-2 Inv-loop μ-loop
-add-letter-2 c = search needs
-
-letter-requires-2 : tie.Need-letter-requires-2 Inv-loop μ-loop
-letter-requires-2 c κs = search needs
-
-returns : tie.Need-returns Inv-loop μ-loop
-returns c =
-    sym (equal-false (differ-at _ _ _ _ _ (search needs) (search needs) (search needs) (c .before .before .before .before .loop .inv .1) (c .before .before .before .loop-test .taken) (λ e. c .if1 .taken (c .before .before .letter .ensures ∙ e ∙ sym (c .before .letter2 .ensures)))))
-
-add-k : tie.Need-add-k Inv-loop μ-loop
-add-k c = search needs
-
-loop-less : tie.Need-loop-less Inv-loop μ-loop
-loop-less c = search needs
-
-loop-again : tie.Need-loop-again Inv-loop μ-loop
-loop-again c =
-    (search needs, below-more _ _ (c .before .before .before .before .loop .inv .1) (sym (c .before .before .letter .ensures) ∙ c .if1 .left ∙ c .before .letter2 .ensures))
-
-returns-2 : tie.Need-returns-2 Inv-loop μ-loop
-returns-2 c = sym (equal-true (same-at _ _ _ _ _ (search needs) (search needs) (search needs) (c .before .loop .inv .1) (c .loop-test .left)))
+returns : tie.Need-returns
+returns c = equal-met _ _ _ _ _ (search needs) (search needs) (search needs) (c .meet .ensures)
 
 pub same-reading-spec : {M : Type 1} → statement M
-same-reading-spec =
-    tie.close
-    (tie.spec
-    Inv-loop
-    μ-loop
-    loop-holds
-    add-letter
-    letter-requires
-    add-letter-2
-    letter-requires-2
-    returns
-    add-k
-    loop-less
-    loop-again
-    returns-2)
+same-reading-spec = tie.close (tie.spec meet-requires returns)

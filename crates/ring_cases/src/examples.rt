@@ -1,0 +1,52 @@
+// The rules' examples: the ten rows, the repeat of ACGAC, rings that are one, and rings of both kinds.
+use super::calls::compare;
+use super::calls::every;
+use shown::text;
+
+// The ten rows of the table.
+pub fn rows() {
+    every(b"A", 1);
+    every(b"AC", 1);
+    every(b"CA", 1);
+    every(b"AAAA", 1);
+    every(b"ACAC", 1);
+    every(b"TATA", 1);
+    every(b"ACA", 1);
+    every(b"ACGT", 1);
+    every(b"TTGA", 1);
+    every(b"GATTACA", 1);
+}
+
+// More rings: the repeat 3, and the same letters as a feature ring.
+pub fn more() {
+    every(b"ACGAC", 1);
+    every(b"GATTACA", 0);
+    every(b"TTGA", 0);
+    every(b"\x80\x00\xff\n\x7f\x00", 0);
+    every(b"\xff\x80\x7f\n\x00", 0);
+    every(b"N", 0);
+}
+
+// Rings that are one and rings that are not.
+pub fn pairs() {
+    text(b"COMPARE kind 1\n");
+    compare(1, b"TTGA", b"TCAA");
+    compare(1, b"TTGA", b"AATC");
+    compare(1, b"TTGA", b"AGTT");
+    compare(1, b"ACGT", b"ACGT");
+    compare(1, b"ACGT", b"GTAC");
+    compare(1, b"AAAA", b"TTTT");
+    compare(1, b"ACAC", b"AACC");
+    compare(1, b"ACA", b"ACAC");
+    features();
+}
+
+// The same letters without an opposite strand.
+fn features() {
+    text(b"COMPARE kind 0\n");
+    compare(0, b"TTGA", b"TCAA");
+    compare(0, b"TTGA", b"ATTG");
+    compare(0, b"AAAA", b"TTTT");
+    compare(0, b"\x00\xff", b"\xff\x00");
+    compare(0, b"\x00\xff", b"\x7f\x00");
+}

@@ -1,0 +1,30 @@
+// What the programs `ring_cases` and `sheet_cases` print with, and the part of a room or table that they lend.
+mod answers;
+mod lend;
+mod show;
+
+pub use answers::bar;
+pub use answers::checked;
+pub use answers::compared;
+pub use answers::factored;
+pub use answers::fought;
+pub use answers::marked;
+pub use answers::outcome;
+pub use answers::read;
+pub use answers::repeated;
+pub use answers::walked;
+pub use lend::middle;
+pub use lend::middle_entries;
+pub use show::FRESH;
+pub use show::bytes;
+pub use show::entries;
+pub use show::front;
+pub use show::labelled;
+pub use show::letters;
+pub use show::line;
+pub use show::named;
+pub use show::number;
+pub use show::plain;
+pub use show::summed;
+pub use show::text;
+pub use show::yes;

@@ -10,6 +10,7 @@ pub mod lent;
 pub mod long;
 pub mod plain;
 pub mod probe;
+pub mod process_times;
 pub mod report;
 pub mod rules;
 pub mod sheet_comparison;

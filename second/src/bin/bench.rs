@@ -1,7 +1,7 @@
 //! Times each call of the library beside plain Rust on the same rings, in one run.
 use second::cases::{self, Numbers};
 use second::lent::Lent;
-use second::{duels, keys, long, plain, probe, sheets};
+use second::{duels, keys, long, plain, probe, process_times, report, sheets};
 use std::hint::black_box;
 use std::time::Instant;
 
@@ -160,5 +160,11 @@ fn main() {
         let pairs = |ring: &Vec<u8>| duels::duel(ring).1 as f64 / ring.len() as f64;
         let mean = |rings: &[Vec<u8>]| rings.iter().map(pairs).sum::<f64>() / rings.len() as f64;
         println!("| {family} | {:.2} | {:.2} |", mean(small), mean(&large));
+    }
+    println!();
+    let rings: Vec<(&str, Vec<u8>)> =
+        lengths.iter().flat_map(|&n| families(n)).map(|(family, mut rings)| (family, rings.swap_remove(0))).collect();
+    if let Some(program) = report::program() {
+        process_times::print(&program, &rings);
     }
 }

@@ -5,7 +5,7 @@ use second::{duels, keys, long, plain, probe, process_times, report, sheets};
 use std::hint::black_box;
 use std::time::Instant;
 
-/// Nanoseconds a letter: the best of several batches, each long enough to be read off the clock.
+/// Nanoseconds a letter: the best of 15 batches, each long enough to be read off the clock.
 fn time(n: usize, mut run: impl FnMut()) -> f64 {
     run();
     let begun = Instant::now();
@@ -13,7 +13,7 @@ fn time(n: usize, mut run: impl FnMut()) -> f64 {
     let once = begun.elapsed().as_nanos().max(1) as f64;
     let times = (1.0e6 / once).ceil().max(1.0) as usize;
     let mut best = f64::MAX;
-    for _ in 0..60 {
+    for _ in 0..15 {
         let begun = Instant::now();
         for _ in 0..times {
             run();
@@ -29,6 +29,17 @@ struct Row {
     n: usize,
     library: f64,
     plain: Vec<(&'static str, f64)>,
+}
+
+impl Row {
+    /// The better of two timings of the same calls.
+    fn better(mut self, other: Row) -> Row {
+        self.library = self.library.min(other.library);
+        for (own, (_, time)) in self.plain.iter_mut().zip(other.plain) {
+            own.1 = own.1.min(time);
+        }
+        self
+    }
 }
 
 /// Each family's rings of n letters. The random ones are many, so that no run's branches are those of the run before.
@@ -118,13 +129,17 @@ fn rows(family: &'static str, words: &[Vec<u8>]) -> Vec<Row> {
 
 fn main() {
     println!(
-        "Nanoseconds a letter, kind 1, best of 60 batches; 131,072 random letters in turn. Tables, rooms and failure tables are made once and not cleared between"
+        "Nanoseconds a letter, kind 1, best of 8 passes of 15 batches; 131,072 random letters in turn. Tables, rooms and failure tables are made once and not cleared between"
     );
     println!("calls, by either side; plain Rust judges the letters too. A ratio is the library's time by the time beside it; growth is");
     println!("the library's time a letter at 8,192 letters by that at 1,024.");
     println!();
     let lengths = [1024, 8192];
-    let all: Vec<Row> = lengths.iter().flat_map(|&n| families(n)).flat_map(|(family, letters)| rows(family, &letters)).collect();
+    let once = || -> Vec<Row> {
+        lengths.iter().flat_map(|&n| families(n)).flat_map(|(family, letters)| rows(family, &letters)).collect()
+    };
+    // passes a few seconds apart, so that a busy moment of the machine spoils no row
+    let all = (1..8).fold(once(), |best, _| best.into_iter().zip(once()).map(|(a, b)| a.better(b)).collect());
     let at = |call: &str, family: &str, n: usize| all.iter().find(|r| r.call == call && r.family == family && r.n == n).unwrap();
     println!("| Call | Beside it | Ring | 1,024 | beside | ratio | 8,192 | beside | ratio | growth |");
     println!("|---|---|---|---|---|---|---|---|---|---|");

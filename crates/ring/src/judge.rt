@@ -2,7 +2,7 @@
 ghost use mathlib.Core.Path.{_≡_};
 ghost use Rattle.words.specs.Kind.{isLetter, stranded, strands};
 ghost use Rattle.ring.specs.Judging.{firstBad, verdict, numberOf, placeOf};
-ghost use Rattle.ring.specs.Answers.{checkedOf};
+ghost use Rattle.ring.specs.Answers.{checkedAs, checkedOf};
 use super::answer::Checked;
 
 // The most letters that a ring has.
@@ -124,13 +124,19 @@ pub fn judge(ring: &[u8], kind: u8, short: bool) -> Verdict
     Verdict::Taken
 }
 
-// A ring judged alone: the number that every call would give it that is lent nothing.
-pub fn check(ring: &[u8], kind: u8) -> Checked
-    ensures { λ r. ⌜ r ≡ checkedOf kind (now (ring .entry)) ⌝ }
+// A verdict as an answer that has nothing else.
+pub fn said(v: Verdict) -> Checked
+    ensures { λ r. ⌜ r ≡ checkedAs v ⌝ }
 {
-    let v = judge(ring, kind, false);
     Checked {
         number: number_of(v),
         place: place_of(v),
     }
+}
+
+// A ring judged alone: the number that every call would give it that is lent nothing.
+pub fn check(ring: &[u8], kind: u8) -> Checked
+    ensures { λ r. ⌜ r ≡ checkedOf kind (now (ring .entry)) ⌝ }
+{
+    said(judge(ring, kind, false))
 }

@@ -14,8 +14,7 @@ use super::answer::Checked;
 use super::factor::first_factor;
 use super::judge::Verdict;
 use super::judge::judge;
-use super::judge::number_of;
-use super::judge::place_of;
+use super::judge::said;
 use super::matches::match_lengths;
 
 // A head's entry has this added; no match length and no start reaches it.
@@ -143,14 +142,8 @@ pub fn starts(ring: &[u8], kind: u8, table: &mut [u16]) -> Checked
 {
     let v = judge(ring, kind, table.len() < ring.len());
     let Verdict::Taken = v else {
-        return Checked {
-            number: number_of(v),
-            place: place_of(v),
-        };
+        return said(v);
     };
     fill_starts(ring, table);
-    Checked {
-        number: 0,
-        place: 0,
-    }
+    said(v)
 }

@@ -10,8 +10,7 @@ ghost use Rattle.ring.specs.Answers.{filledOf, suffixesTable};
 use super::answer::Checked;
 use super::judge::Verdict;
 use super::judge::judge;
-use super::judge::number_of;
-use super::judge::place_of;
+use super::judge::said;
 
 // Fills the entries of the block from `m`, a Lyndon word over and over, and answers where the next block begins. An entry is `m`
 // where the block so far is one Lyndon word, else the entry one word before, plus that word's length.
@@ -58,14 +57,8 @@ pub fn suffixes(ring: &[u8], kind: u8, table: &mut [u16]) -> Checked
 {
     let v = judge(ring, kind, table.len() < ring.len());
     let Verdict::Taken = v else {
-        return Checked {
-            number: number_of(v),
-            place: place_of(v),
-        };
+        return said(v);
     };
     fill_suffixes(ring, table);
-    Checked {
-        number: 0,
-        place: 0,
-    }
+    said(v)
 }

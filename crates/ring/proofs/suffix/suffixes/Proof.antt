@@ -1,8 +1,9 @@
 -- `ring::suffix::suffixes` meets its contract.
 -- Assumes nothing.
-use mathlib.Core.Path.{sym, _∙_}
+use mathlib.Core.Path.{sym, ap, _∙_}
 use borrow.Author.Needs.{needs}
 use borrow.Author.Tests.{ltb-false}
+use Rattle.ring.specs.Answers.{checkedAs}
 use Rattle.ring.proofs.Judging.{not-taken}
 use Rattle.ring.proofs.Exactly.{taken-permitted}
 use Rattle.ring.proofs.suffix.suffixes.Statement.{statement}
@@ -14,31 +15,41 @@ judge-requires c κs = search needs
 enum-told : tie.Need-enum-told
 enum-told c = search needs
 
-number-of-requires : tie.Need-number-of-requires
-number-of-requires c κs = search needs
-
-place-of-requires : tie.Need-place-of-requires
-place-of-requires c κs = search needs
+said-requires : tie.Need-said-requires
+said-requires c κs = search needs
 
 returns : tie.Need-returns
 returns c =
-    let e = c .before .before .before .judge .ensures in
-    let r = not-taken (c .before .before .before .judge .result) (c .before .before .match .keys2) in
-    (rw (← e) (cc), rw (← e, r))
+    let e = c .before .before .judge .ensures in
+    let r = not-taken (c .before .before .judge .result) (c .before .match .keys2) in
+    (c .said .ensures ∙ ap checkedAs e, rw (← e, r))
 
 fill-suffixes-requires : tie.Need-fill-suffixes-requires
 fill-suffixes-requires c κs =
     let f = taken-permitted _ _ _ (sym (c .before .before .before .judge .ensures) ∙ c .before .enum-told .given .1) in
     (ltb-false _ _ (f .1), f .0 .within)
 
+said-requires-2 : tie.Need-said-requires-2
+said-requires-2 c κs = search needs
+
 same-length : tie.Need-same-length
 same-length c = search needs
 
 returns-2 : tie.Need-returns-2
 returns-2 c =
-    let e = sym (c .before .before .before .before .before .before .judge .ensures) ∙ c .before .before .before .before .enum-told .given .1 in
-    (rw e, rw e (c .before .before .fill-suffixes .ensures))
+    let e = c .before .before .before .before .before .before .before .judge .ensures in
+    let t = sym e ∙ c .before .before .before .before .before .enum-told .given .1 in
+    (c .said2 .ensures ∙ ap checkedAs e, rw t (c .before .before .before .fill-suffixes .ensures))
 
 pub suffixes-spec : {M : Type 1} → statement M
 suffixes-spec =
-    tie.close (tie.spec judge-requires enum-told number-of-requires place-of-requires returns fill-suffixes-requires same-length returns-2)
+    tie.close
+    (tie.spec
+    judge-requires
+    enum-told
+    said-requires
+    returns
+    fill-suffixes-requires
+    said-requires-2
+    same-length
+    returns-2)

@@ -1,1 +1,2 @@
+-- The laws of what a host is told
 pub mod Telling

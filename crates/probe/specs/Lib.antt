@@ -1,1 +1,2 @@
+-- What a host finds in its values
 pub mod Told

@@ -1,3 +1,4 @@
+-- The laws of the report, and its examples
 pub mod Digits
 pub mod Rows
 pub mod Told

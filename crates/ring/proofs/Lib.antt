@@ -1,3 +1,4 @@
+-- The laws of the ring rules; what each function's proof cites, and the theorems above the contracts
 pub mod Judging
 pub mod Facings
 pub mod Laid

@@ -1,3 +1,4 @@
+-- The laws of sheets and books, and the theorems above the contracts
 pub mod Rounds
 pub mod Accepted
 pub mod Replies

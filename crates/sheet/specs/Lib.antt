@@ -1,3 +1,4 @@
+-- Sheets and books, as the public contracts speak of them
 pub mod Sheet
 pub mod Trailer
 pub mod Reader

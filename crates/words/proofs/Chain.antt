@@ -16,14 +16,14 @@ use Rattle.words.proofs.Order.{irrefl, trans, lt-le, le-trans, append-l
 use Rattle.words.proofs.Lyndon.{word-below}
 use Rattle.words.proofs.Route.{inside}
 use Rattle.words.proofs.Run.{reading-split}
-use Rattle.words.proofs.Push.{le-left, power, power-zero, power-suc, power-snoc, power-add, push, swap, Ok, low, front, Not, high, beyond}
+use Rattle.words.proofs.Push.{le-left, power, power-zero, power-suc, power-snoc, power-add, push, swap, AtMost, low, front, More, high, beyond}
 
 -- every reading before n is greater than the one at n
 abbrev pub Above : List ℕ → ℕ → Type 0
 Above w n = (i : ℕ) → i < n → reading w n ≺ reading w i
 
 -- a word that is decided against x t is below x a
-part-below : {u t a : List ℕ} → Ok t a → (x r s : List ℕ) → u ≪ x ++ t → u ++ r ≺ x ++ (a ++ s)
+part-below : {u t a : List ℕ} → AtMost t a → (x r s : List ℕ) → u ≪ x ++ t → u ++ r ≺ x ++ (a ++ s)
 part-below {a = a} (low d) x r s h = decided (rw (← append-assoc x a s) (decided-more r s (decided-trans h (decided-under x d))))
 part-below {t = t} {a = a} (front y f) x r s h = let e : x ++ (a ++ s) ≡ (x ++ t) ++ (y ++ s) = rw f (simp append-assoc) in decided (rw e (decided-more r (y ++ s) h))
 
@@ -40,7 +40,7 @@ module _ (w a u v t : List ℕ) (e : ℕ) (q : u ≡ v ++ t) (y : Lyndon u) (z :
       irrefl (trans (rw (r, s) at (h (length t) (omega (arith, ap length f, length-append t b)))) (swap b u (suc e) m))
 
   -- a copy of v behind t goes through a
-  cycle : Ok t a → (t ++ v) ++ a ≼ a ++ u
+  cycle : AtMost t a → (t ++ v) ++ a ≼ a ++ u
   cycle (low d) = lt-le (decided (rw append-assoc (decided-more (v ++ a) u d)))
   cycle (front x f) =
       let l : (t ++ v) ++ a ≡ t ++ (u ++ x) = rw (f, q) (simp append-assoc) in
@@ -61,7 +61,7 @@ module _ (w a u v t : List ℕ) (e : ℕ) (q : u ≡ v ++ t) (y : Lyndon u) (z :
 
   -- ---- t is no more than a as far as it goes
 
-  module _ (k : Ok t a) where
+  module _ (k : AtMost t a) where
     -- where a copy begins
     copy : (c b : ℕ) → c + b ≡ suc e → reading w (length a) ≼ reading w (length (a ++ power c u))
     copy c b s =
@@ -109,7 +109,7 @@ module _ (w a u v t : List ℕ) (e : ℕ) (q : u ≡ v ++ t) (y : Lyndon u) (z :
 
   -- ---- t is more
 
-  less : Not t a → a ++ u ≺ (t ++ v) ++ a
+  less : More t a → a ++ u ≺ (t ++ v) ++ a
   less (high d) = decided (rw append-assoc (decided-more u (v ++ a) d))
   less (beyond x f l) =
       let b : u ≡ (v ++ a) ++ x = q ∙ ap (λ i. v ++ i) f ∙ sym (append-assoc v a x) in
@@ -119,7 +119,7 @@ module _ (w a u v t : List ℕ) (e : ℕ) (q : u ≡ v ++ t) (y : Lyndon u) (z :
       let o : u ++ [] ≪ x ++ (v ++ a) = rw d at (word-below (length (v ++ a)) [] (v ++ a) y (rw length-append (omega arith)) (omega arith)) in
       rw r (append-left a (decided (rw append-nil at o)))
 
-  pub second-copy : Not t a → Above w (length (a ++ u))
+  pub second-copy : More t a → Above w (length (a ++ u))
   second-copy k i l =
       let b : List ℕ = power e u ++ v in
       let r : reading w (length (a ++ u)) ≡ b ++ (a ++ u) = reading-split w (a ++ u) b (g ∙ rw (power-suc e u) (simp append-assoc)) in

@@ -1,3 +1,4 @@
+-- The laws of words and rings, each file over those before it
 pub mod Search
 pub mod Order
 pub mod Kind

@@ -17,16 +17,16 @@ use Rattle.words.proofs.Order.{irrefl, lt-le, decided-more, decided-lef
 use Rattle.words.proofs.Lyndon.{word-below}
 use Rattle.words.proofs.Factor.{longest-least, run-longest}
 use Rattle.words.proofs.Route.{inside}
-use Rattle.words.proofs.Push.{power, power-suc, power-snoc, Ok, low, front, Not, high, beyond}
+use Rattle.words.proofs.Push.{power, power-suc, power-snoc, AtMost, low, front, More, high, beyond}
 use Rattle.words.proofs.Chain.{Above, first-copy, second-copy}
 
 -- ---- a word one u longer is tested alike
 
-pub ok-more : {t a : List ℕ} (u : List ℕ) → Ok t a → Ok t (a ++ u)
+pub ok-more : {t a : List ℕ} (u : List ℕ) → AtMost t a → AtMost t (a ++ u)
 ok-more {t} u (low d) = low (rw append-nil at (decided-more [] u d))
 ok-more {t} u (front y e) = front (y ++ u) (rw e (append-assoc t y u))
 
-pub not-more : {t a : List ℕ} (u : List ℕ) → ((y : List ℕ) → t ≡ a ++ y → 0 < length y → u ≪ y) → Not t a → Not t (a ++ u)
+pub not-more : {t a : List ℕ} (u : List ℕ) → ((y : List ℕ) → t ≡ a ++ y → 0 < length y → u ≪ y) → More t a → More t (a ++ u)
 not-more u f (high d) = high (decided-left u d)
 not-more {a = a} u f (beyond y e l) = high (rw e (decided-under a (f y e l)))
 
@@ -38,8 +38,8 @@ suffix-above u r a z i y p q n =
 
 -- the proper ends of the Lyndon words that are prefixes of s, up to length n, are tested against a as against b
 pub record Agrees (s a b : List ℕ) (n : ℕ) : Type 0 where
-  pub ok : (k i : ℕ) → k ≤ n → Lyndon (take k s) → 0 < i → Ok (drop i (take k s)) b → Ok (drop i (take k s)) a
-  pub no : (k i : ℕ) → k ≤ n → Lyndon (take k s) → 0 < i → Not (drop i (take k s)) b → Not (drop i (take k s)) a
+  pub ok : (k i : ℕ) → k ≤ n → Lyndon (take k s) → 0 < i → AtMost (drop i (take k s)) b → AtMost (drop i (take k s)) a
+  pub no : (k i : ℕ) → k ≤ n → Lyndon (take k s) → 0 < i → More (drop i (take k s)) b → More (drop i (take k s)) a
 
 pub agrees-same : (s a : List ℕ) (n : ℕ) → Agrees s a a n
 agrees-same s a n = record { ok = λ k i h y p o. o; no = λ k i h y p o. o }
@@ -75,11 +75,11 @@ module _ (s : List ℕ) (l e : ℕ) (u v t : List ℕ) (r : Tail s l u v t e) wh
       rw f (suffix-above x (drop j u) a z i y p q n)
 
   -- the tests against b, for a
-  test-ok : (a b : List ℕ) → Agrees s a b l → Ok t b → Ok t a
+  test-ok : (a b : List ℕ) → Agrees s a b l → AtMost t b → AtMost t a
   test-ok a b c o =
       rw tail-end at (c .ok (length u) (length v) (omega (arith, tail-length)) (rw (r .front) (r .word)) (r .some) (rw tail-end o))
 
-  test-no : (a b : List ℕ) → Agrees s a b l → Not t b → Not t a
+  test-no : (a b : List ℕ) → Agrees s a b l → More t b → More t a
   test-no a b c o =
       rw tail-end at (c .no (length u) (length v) (omega (arith, tail-length)) (rw (r .front) (r .word)) (r .some) (rw tail-end o))
 

@@ -12,7 +12,7 @@ use Rattle.words.specs.Lyndon.{Lyndon}
 use Rattle.words.specs.Factor.{longest}
 use Rattle.words.specs.Match.{MatchLength}
 use Rattle.words.specs.Block.{Head, Block}
-use Rattle.words.specs.Start.{Ok, Not, Chain}
+use Rattle.words.specs.Start.{AtMost, More, Chain}
 use Rattle.words.specs.Mark.{unmark, Mark, yes, no, Judged, add, leave, Outside, Fresh, Marking}
 use Rattle.words.proofs.Search.{either, lt-or-ge}
 use Rattle.words.proofs.Factor.{longest-least, longest-within}
@@ -148,12 +148,12 @@ module _ (h : ℕ) (w t : List ℕ) (m p l : ℕ) (g : Marking h w t m p l) (n :
       word : Lyndon (take p (drop m w))
       word = let e : l + 1 - m - (l + 1 - m - p) ≡ p = omega (arith, below) in rw e at (d .scan .word)
 
-      near-add : Ok (drop (l + 1 - m - p) (take p (drop m w))) (take m w) → Judged h (drop m w) (take m w) (l + 1 - m) (h + h)
+      near-add : AtMost (drop (l + 1 - m - p) (take p (drop m w))) (take m w) → Judged h (drop m w) (take m w) (l + 1 - m) (h + h)
       near-add o =
           let e : l + 1 - m - (l + 1 - m - p) ≡ p = omega (arith, below) in
           add refl (near-good (drop m w) _ _ (d .scan) (omega (arith, below)) (take m w) (omega (arith, below)) (rw e o))
 
-      near-leave : Mark h (drop m w) (take m w) (l + 1 - m - p) (getD t (l - p) 0) → Not (drop (l + 1 - m - p) (take p (drop m w))) (take m w)
+      near-leave : Mark h (drop m w) (take m w) (l + 1 - m - p) (getD t (l - p) 0) → More (drop (l + 1 - m - p) (take p (drop m w))) (take m w)
           → Judged h (drop m w) (take m w) (l + 1 - m) 0
       near-leave (yes x z) o =
           let e : l + 1 - m - (l + 1 - m - p) ≡ p = omega (arith, below) in

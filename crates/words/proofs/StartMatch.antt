@@ -10,19 +10,19 @@ use lib.Seq.{ext-getD, getD-take, getD-drop, length-take-le, take-all}
 use Rattle.words.specs.Order.{_≪_}
 use Rattle.words.specs.Lyndon.{Lyndon}
 use Rattle.words.specs.Match.{MatchLength}
-use Rattle.words.specs.Start.{Ok, low, front, Not, high, beyond}
+use Rattle.words.specs.Start.{AtMost, low, front, More, high, beyond}
 use Rattle.words.proofs.Search.{either, lt-or-ge}
 use Rattle.words.proofs.Order.{irrefl, trans, le-or, le-cases, prefix-le, prefix-before, decided, decided-or-prefix, decided-at}
 use Rattle.words.proofs.Start.{ok-more, not-more, suffix-above}
 
 -- ---- t is more than a or it is not, and never both
 
-ok-or-not : (t a : List ℕ) → Ok t a ⊎ Not t a
+ok-or-not : (t a : List ℕ) → AtMost t a ⊎ More t a
 ok-or-not t a =
     either (le-or t a) (λ h. inl (either (decided-or-prefix h) (λ d. low d) (λ p. front (p .0) (p .1))))
     (λ h. either (le-cases h) (λ e. inl (front [] (e ∙ sym (append-nil t)))) (λ l. inr (either (decided-or-prefix l) (λ d. high d) (λ p. beyond (p .0) (p .1) (p .2)))))
 
-apart : {t a : List ℕ} → Ok t a → Not t a → ⊥
+apart : {t a : List ℕ} → AtMost t a → More t a → ⊥
 apart (low d) (high e) = irrefl (trans (decided d) (decided e))
 apart {a = a} (low d) (beyond y e l) = irrefl (trans (decided (rw e at d)) (prefix-before a y l))
 apart {t = t} (front y e) (high d) = prefix-le t y (decided (rw e at d))
@@ -35,15 +35,15 @@ module _ (w : List ℕ) (m p k : ℕ) (y : Lyndon (take p (drop m w))) (h : 0 < 
   clear z e l =
       subst (λ v. v ≪ z) (take-append-drop p (drop m w)) (suffix-above (take p (drop m w)) (drop p (drop m w)) (take m w) z k y h e l)
 
-  pub whole-ok : Ok (drop k (take p (drop m w))) w → Ok (drop k (take p (drop m w))) (take m w)
+  pub whole-ok : AtMost (drop k (take p (drop m w))) w → AtMost (drop k (take p (drop m w))) (take m w)
   whole-ok o =
       either (ok-or-not (drop k (take p (drop m w))) (take m w)) (λ q. q)
-      (λ q. absurd (apart o (subst (Not (drop k (take p (drop m w)))) (take-append-drop m w) (not-more (drop m w) clear q))))
+      (λ q. absurd (apart o (subst (More (drop k (take p (drop m w)))) (take-append-drop m w) (not-more (drop m w) clear q))))
 
-  pub whole-not : Not (drop k (take p (drop m w))) w → Not (drop k (take p (drop m w))) (take m w)
+  pub whole-not : More (drop k (take p (drop m w))) w → More (drop k (take p (drop m w))) (take m w)
   whole-not o =
       either (ok-or-not (drop k (take p (drop m w))) (take m w))
-      (λ q. absurd (apart (subst (Ok (drop k (take p (drop m w)))) (take-append-drop m w) (ok-more (drop m w) q)) o)) (λ q. q)
+      (λ q. absurd (apart (subst (AtMost (drop k (take p (drop m w)))) (take-append-drop m w) (ok-more (drop m w) q)) o)) (λ q. q)
 
 -- ---- letter by letter
 
@@ -53,13 +53,13 @@ module _ (x b : List ℕ) (z : ℕ) (m : z ≤ length x) (n : z ≤ length b) (a
       let p : length (take z x) ≡ z = length-take-le z x m in
       ext-getD 0 _ _ (p ∙ sym (length-take-le z b n)) (λ q l. let o : q < z = rw p at l in getD-take z x q 0 o ∙ a q o ∙ sym (getD-take z b q 0 o))
 
-  ok-low : z < length x → z < length b → getD x z 0 < getD b z 0 → Ok x b
+  ok-low : z < length x → z < length b → getD x z 0 < getD b z 0 → AtMost x b
   ok-low h l o = low (decided-at z x b agreed h l o)
 
-  not-high : z < length x → z < length b → getD b z 0 < getD x z 0 → Not x b
+  not-high : z < length x → z < length b → getD b z 0 < getD x z 0 → More x b
   not-high h l o = high (decided-at z b x (sym agreed) l h o)
 
-  pub ok-front : length x ≤ z → Ok x b
+  pub ok-front : length x ≤ z → AtMost x b
   ok-front h = front (drop z b) (sym (take-append-drop z b) ∙ ap (λ y. y ++ drop z b) (sym agreed ∙ take-all z x h))
 
 -- the letters from i to e against the whole word, where z letters from i on match
@@ -73,14 +73,14 @@ module _ (w : List ℕ) (i e z : ℕ) (a : MatchLength w i z) (l : i ≤ e) (b :
   pairs : (q : ℕ) → q < z → i + q < e → getD (drop i (take e w)) q 0 ≡ getD w q 0
   pairs q h c = here q c ∙ a .match .same q h
 
-  pub match-whole : e ≤ i + z → Ok (drop i (take e w)) w
+  pub match-whole : e ≤ i + z → AtMost (drop i (take e w)) w
   match-whole h = ok-front _ _ (e - i) (omega (arith, long)) (omega arith) (λ q c. pairs q (omega arith) (omega arith)) (omega (arith, long))
 
   module _ (h : i + z < e) where
-    pub match-low : getD w (i + z) 0 < getD w z 0 → Ok (drop i (take e w)) w
+    pub match-low : getD w (i + z) 0 < getD w z 0 → AtMost (drop i (take e w)) w
     match-low c = ok-low _ _ z (omega (arith, long)) (omega arith) (λ q d. pairs q d (omega arith)) (omega (arith, long)) (omega arith) (rw (here z h) c)
 
-    pub match-high : getD w z 0 ≤ getD w (i + z) 0 → Not (drop i (take e w)) w
+    pub match-high : getD w z 0 ≤ getD w (i + z) 0 → More (drop i (take e w)) w
     match-high c =
         let d : getD w z 0 < getD w (i + z) 0 = either (lt-or-ge (getD w z 0) (getD w (i + z) 0)) (λ q. q) (λ q. absurd (a .differs (omega arith) (omega arith))) in
         not-high _ _ z (omega (arith, long)) (omega arith) (λ q d. pairs q d (omega arith)) (omega (arith, long)) (omega arith) (rw (here z h) d)

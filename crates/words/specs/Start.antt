@@ -13,14 +13,14 @@ unfoldable pub power : ℕ → List ℕ → List ℕ
 power j u = flat (copies j u)
 
 -- t is no more than a as far as it goes
-pub data Ok (t a : List ℕ) : Type 0 where
-  low : t ≪ a → Ok t a
-  front : (y : List ℕ) → a ≡ t ++ y → Ok t a
+pub data AtMost (t a : List ℕ) : Type 0 where
+  low : t ≪ a → AtMost t a
+  front : (y : List ℕ) → a ≡ t ++ y → AtMost t a
 
 -- t is more
-pub data Not (t a : List ℕ) : Type 0 where
-  high : a ≪ t → Not t a
-  beyond : (y : List ℕ) → t ≡ a ++ y → 0 < length y → Not t a
+pub data More (t a : List ℕ) : Type 0 where
+  high : a ≪ t → More t a
+  beyond : (y : List ℕ) → t ≡ a ++ y → 0 < length y → More t a
 
 -- the first l letters of s are a Lyndon word u, once or more, and then v, with u = v t
 pub record Tail (s : List ℕ) (l : ℕ) (u v t : List ℕ) (e : ℕ) : Type 0 where
@@ -34,5 +34,5 @@ pub record Tail (s : List ℕ) (l : ℕ) (u v t : List ℕ) (e : ℕ) : Type 0 w
 -- how far behind the head the start is, by the tests against b
 pub data Chain (s b : List ℕ) : ℕ → ℕ → Type 0 where
   new : {l : ℕ} → l ≤ length s → Lyndon (take l s) → Chain s b l 0
-  good : {l e : ℕ} {u v t : List ℕ} → Tail s l u v t e → Ok t b → Chain s b l 0
-  bad : {l e k n : ℕ} {u v t : List ℕ} → Tail s l u v t e → Not t b → take k s ≡ power e u ++ v → k ≤ l → Chain s b k n → Chain s b l (length u + n)
+  good : {l e : ℕ} {u v t : List ℕ} → Tail s l u v t e → AtMost t b → Chain s b l 0
+  bad : {l e k n : ℕ} {u v t : List ℕ} → Tail s l u v t e → More t b → take k s ≡ power e u ++ v → k ≤ l → Chain s b k n → Chain s b l (length u + n)

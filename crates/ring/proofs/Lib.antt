@@ -9,7 +9,6 @@ pub mod Numbers
 pub mod Determined
 pub mod Permits
 pub mod Equal
-pub mod Rooms
 pub mod Written
 pub mod Marks
 pub mod Keyed

@@ -1,19 +1,19 @@
 -- What the writer makes is read back: its key, marks, kind and deposit, whatever stands before it.
 -- Assumes nothing.
 use mathlib.Core.Path.{_≡_, refl, sym, ap, ap₂, _∙_}
-use mathlib.Core.Bool.{false, not}
+use mathlib.Core.Bool.{true, false, not}
 use mathlib.Core.List.{List, [], _∷_, _++_, append-assoc}
-use Prim.Native.Nat.{ℕ, zero, suc, _≤_, _+_, _-_, _*_}
+use Prim.Native.Nat.{ℕ, _≤_, _+_, _-_, _*_}
 use native.Mathlib.Omega.{arith}
-use borrow.Author.Tests.{ne-eqb, le-ltb, leb-true}
+use borrow.Author.Tests.{ne-eqb, le-ltb, lt-leb}
 use lib.Dec.{ltb}
 use lib.ListN.{length, take, getD, length-append}
 use lib.Seq.{take-at, drop-at}
 use Rattle.words.specs.Order.{before}
-use Rattle.words.specs.Kind.{stranded}
-use Rattle.words.specs.Ring.{lowest}
-use Rattle.words.specs.Strand.{opposite, strand, keyStart, key}
-use Rattle.words.proofs.Search.{by-test}
+use Rattle.words.specs.Kind.{known, strands}
+use Rattle.words.specs.Strand.{strand, keyStart, key}
+use Rattle.words.proofs.Kind.{no-strand}
+use Rattle.words.proofs.Strand.{strand-below}
 use Rattle.ring.specs.Rule.{rule}
 use Rattle.ring.specs.Judging.{most, Permitted, firstBad, over}
 use Rattle.ring.proofs.Rules.{Clear, clear-join, clear-more, clear-done}
@@ -62,11 +62,9 @@ module _ (pre : List ℕ) (m : Marks) where
 
 -- ---- the round trip
 
-written-right : (n s kind : ℕ) (w : List ℕ) → kind ≤ 1 → wrongMarks (trailerOf n s (strand kind w) kind) ≡ false
-unfolding wrongMarks strand stranded
-written-right n s zero w h = refl
-written-right n s (suc zero) w h = by-test (before (lowest (opposite w)) (lowest w)) (λ t. rw t) (λ t. rw t)
-written-right n s (suc (suc k)) w h = absurd (omega arith)
+written-right : (n s kind : ℕ) (w : List ℕ) → known kind ≡ true → wrongMarks (trailerOf n s (strand kind w) kind) ≡ false
+unfolding wrongMarks
+written-right n s kind w k = sym (no-strand kind (strand kind w)) ∙ lt-leb (strands kind) (strand kind w) (strand-below kind w k)
 
 module _ (pre : List ℕ) (kind : ℕ) (w : List ℕ) (p : Permitted kind w) where
   pub written-clear : Clear (sheetRules (pre ++ sheetOf kind w))
@@ -81,7 +79,7 @@ module _ (pre : List ℕ) (kind : ℕ) (w : List ℕ) (p : Permitted kind w) whe
       clear-join (formRules b) (notMade b ∷ []) (
         le-ltb (length b) 8 (omega arith),
         (
-          ap wrongMarks (trailer-bytes pre m) ∙ written-right (length (key kind w)) (keyStart kind w) kind w (leb-true kind 1 (p .kinds)),
+          ap wrongMarks (trailer-bytes pre m) ∙ written-right (length (key kind w)) (keyStart kind w) kind w (p .kinds),
           (
             ne-eqb (wayBack b) 0 (λ z. omega (arith, p .some)),
             (

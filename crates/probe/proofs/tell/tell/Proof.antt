@@ -4,12 +4,13 @@ use mathlib.Core.Path.{_≡_, refl}
 use Prim.Native.Nat.{_-_, _≤_}
 use borrow.Author.Needs.{needs}
 use lib.ListN.{length}
-use Rattle.probe.proofs.Telling.{Telling, tell-none, tell-one, tell-all, tell-short}
+use Rattle.ring.proofs.Laid.{Partly, partly-none, partly-one}
+use Rattle.probe.proofs.Telling.{tell-all, tell-short}
 use Rattle.probe.proofs.tell.tell.Statement.{statement}
 use Rattle.probe.proofs.tell.tell.Tie as tie
 
 abbrev Inv-loop : tie.InvT-loop
-Inv-loop values₀ fields n i₀ values i = (n ≡ length fields) × (length values ≡ length values₀) × (length fields ≤ length values) × Telling fields values₀ values i
+Inv-loop values₀ fields n i₀ values i = (n ≡ length fields) × (length values ≡ length values₀) × (length fields ≤ length values) × Partly fields values₀ values i
 
 abbrev μ-loop : tie.MeasureT-loop
 μ-loop values₀ fields n i₀ values i = n - i
@@ -18,7 +19,7 @@ returns : tie.Need-returns Inv-loop μ-loop
 returns c = tell-short _ _ (search needs)
 
 loop-holds : tie.Need-loop-holds Inv-loop μ-loop
-loop-holds c = (search needs, search needs, search needs, tell-none _ _ (search needs))
+loop-holds c = (search needs, search needs, search needs, partly-none _ _ (search needs))
 
 mul-values : tie.Need-mul-values Inv-loop μ-loop
 mul-values c = search needs
@@ -40,7 +41,7 @@ loop-less c = search needs
 
 loop-again : tie.Need-loop-again Inv-loop μ-loop
 loop-again c =
-    (search needs, search needs, search needs, tell-one _ _ _ _ _ (c .before .before .loop .inv .3) (search needs) refl)
+    (search needs, search needs, search needs, partly-one _ _ _ _ _ (c .before .before .loop .inv .3) (search needs) refl)
 
 same-length : tie.Need-same-length Inv-loop μ-loop
 same-length c = search needs

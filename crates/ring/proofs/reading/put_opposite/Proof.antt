@@ -9,7 +9,7 @@ use lib.Seq.{take-all, length-take-le}
 use Rattle.words.specs.Strand.{opposite}
 use Rattle.words.proofs.Strand.{opposite-parts, length-opposite}
 use Rattle.ring.specs.Judging.{over}
-use Rattle.ring.proofs.Rooms.{over-two}
+use Rattle.ring.proofs.Laid.{over-two}
 use Rattle.ring.proofs.reading.put_opposite.Statement.{statement}
 use Rattle.ring.proofs.reading.put_opposite.Tie as tie
 
@@ -52,7 +52,7 @@ returns c =
     let at = c .before .before .before .before .before .before .before .before .before .before .before .before .args .at in
     let n : at ≤ length w = search needs in
     let rest = length w - at in
-    over-two (opposite (take rest w)) (opposite (drop rest w)) _ _ _ _ (length-opposite _ ∙ length-take-le rest w (omega arith)) (c .before .before .before .before .before .before .before .copy-opposite .ensures)
+    over-two (opposite (take rest w)) (opposite (drop rest w)) _ _ _ _ (length-opposite _ ∙ length-take-le rest w (omega arith)) (omega (arith, length-opposite (take rest w), length-opposite (drop rest w), length-take-le rest w (omega arith), length-drop rest w)) (c .before .before .before .before .before .before .before .copy-opposite .ensures)
     (rw (take-all (length w - rest) (drop rest w) (rw length-drop (omega arith))) at (c .before .before .copy-opposite2 .ensures))
     ∙ ap (λ x. over x (c .before .before .before .before .before .before .before .before .before .before .before .before .args .room .now)) (sym (opposite-parts w at n))
 

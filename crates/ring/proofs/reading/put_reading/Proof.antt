@@ -7,7 +7,7 @@ use Prim.Native.Nat.{_-_}
 use lib.ListN.{length, take, drop, length-drop, length-take}
 use lib.Seq.{take-all, length-take-le}
 use Rattle.words.specs.Ring.{reading}
-use Rattle.ring.proofs.Rooms.{over-two}
+use Rattle.ring.proofs.Laid.{over-two}
 use Rattle.ring.proofs.reading.put_reading.Statement.{statement}
 use Rattle.ring.proofs.reading.put_reading.Tie as tie
 
@@ -49,7 +49,7 @@ unfolding reading
 returns c =
     let w = c .before .before .before .before .before .before .before .before .before .before .before .before .args .w .now in
     let at = c .before .before .before .before .before .before .before .before .before .before .before .before .args .at in
-    over-two (drop at w) (take at w) _ _ _ _ (length-drop at w) (rw (take-all (length w - at) (drop at w) (rw length-drop (omega arith))) at (c .before .before .before .before .before .before .before .copy .ensures)) (c .before .before .copy2 .ensures)
+    over-two (drop at w) (take at w) _ _ _ _ (length-drop at w) (rw (length-drop, length-take) (omega arith)) (rw (take-all (length w - at) (drop at w) (rw length-drop (omega arith))) at (c .before .before .before .before .before .before .before .copy .ensures)) (c .before .before .copy2 .ensures)
 
 pub put-reading-spec : {M : Type 1} → statement M
 put-reading-spec =

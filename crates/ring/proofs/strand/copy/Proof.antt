@@ -4,7 +4,7 @@ use borrow.Author.Needs.{needs}
 use Prim.Native.Nat.{_-_}
 use mathlib.Core.Path.{_≡_, refl}
 use lib.ListN.{length}
-use Rattle.ring.proofs.Rooms.{Partly, partly-none, partly-one, partly-all}
+use Rattle.ring.proofs.Laid.{Partly, partly-none, partly-one, partly-all}
 use Rattle.ring.proofs.strand.copy.Statement.{statement}
 use Rattle.ring.proofs.strand.copy.Tie as tie
 

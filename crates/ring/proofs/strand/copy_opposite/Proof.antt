@@ -7,7 +7,7 @@ use lib.ListN.{length}
 use Rattle.words.specs.Strand.{opposite}
 use Rattle.ring.specs.Facings.{facingTable}
 use Rattle.words.proofs.Strand.{length-opposite, opposite-at}
-use Rattle.ring.proofs.Rooms.{Partly, partly-none, partly-one, partly-all}
+use Rattle.ring.proofs.Laid.{Partly, partly-none, partly-one, partly-all}
 use Rattle.ring.proofs.strand.copy_opposite.Statement.{statement}
 use Rattle.ring.proofs.strand.copy_opposite.Tie as tie
 

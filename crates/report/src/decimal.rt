@@ -50,6 +50,7 @@ pub fn put_number(room: &mut [u8], x: usize) -> usize
     k
 }
 
+// An entry of a table as a number to count with.
 fn wide(x: u16) -> usize
     ensures { λ r. ⌜ r ≡ x ⌝ }
 {

@@ -28,18 +28,18 @@ use Rattle.ring.proofs.duels.duel.Reads as duel-reads
 use Rattle.ring.proofs.periods.repeat
 use Rattle.ring.proofs.periods.repeat.Kinds as repeat-kinds
 use Rattle.ring.proofs.periods.repeat.Reads as repeat-reads
-use Rattle.ring.proofs.keys.mark
-use Rattle.ring.proofs.keys.mark.Kinds as mark-kinds
-use Rattle.ring.proofs.keys.mark.Reads as mark-reads
+use Rattle.ring.proofs.marking.mark
+use Rattle.ring.proofs.marking.mark.Kinds as mark-kinds
+use Rattle.ring.proofs.marking.mark.Reads as mark-reads
 use Rattle.ring.proofs.keys.write_key
 use Rattle.ring.proofs.keys.write_key.Kinds as write-key-kinds
 use Rattle.ring.proofs.keys.write_key.Reads as write-key-reads
 use Rattle.ring.proofs.keys.key
 use Rattle.ring.proofs.keys.key.Kinds as key-kinds
 use Rattle.ring.proofs.keys.key.Reads as key-reads
-use Rattle.ring.proofs.keys.is_key
-use Rattle.ring.proofs.keys.is_key.Kinds as is-key-kinds
-use Rattle.ring.proofs.keys.is_key.Reads as is-key-reads
+use Rattle.ring.proofs.key_test.is_key
+use Rattle.ring.proofs.key_test.is_key.Kinds as is-key-kinds
+use Rattle.ring.proofs.key_test.is_key.Reads as is-key-reads
 use Rattle.ring.proofs.comparison.compare
 use Rattle.ring.proofs.comparison.compare.Kinds as compare-kinds
 use Rattle.ring.proofs.comparison.compare.Reads as compare-reads

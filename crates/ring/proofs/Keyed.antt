@@ -14,7 +14,7 @@ use Rattle.words.proofs.Search.{by-test, neither}
 use Rattle.ring.specs.declared.judge.Verdict.{Verdict}
 use Rattle.ring.specs.declared.judge.Verdict.the-variants.{Taken}
 use Rattle.ring.specs.declared.answer.Marked.{Marked}
-use Rattle.ring.specs.declared.keys.Strands.{Strands}
+use Rattle.ring.specs.declared.marking.Strands.{Strands}
 use Rattle.ring.specs.Judging.{Permitted, taken, over}
 use Rattle.ring.specs.Strands.{strandsOf, markedOn, refusedBy}
 use Rattle.ring.specs.Answers.{roomsShort, keyVerdict, keyedOf, firstRoom, secondRoom}

@@ -18,7 +18,7 @@ use Rattle.words.proofs.Strand.{length-opposite}
 use Rattle.ring.specs.declared.judge.Verdict.{Verdict}
 use Rattle.ring.specs.declared.judge.Verdict.the-variants.{Taken}
 use Rattle.ring.specs.declared.answer.Marked.{Marked}
-use Rattle.ring.specs.declared.keys.Strands.{Strands}
+use Rattle.ring.specs.declared.marking.Strands.{Strands}
 use Rattle.ring.specs.Judging.{taken, over}
 use Rattle.ring.specs.Strands.{strandsOf, markedOn, refusedBy, leftTo}
 use Rattle.ring.specs.Answers.{markedAs}

@@ -9,7 +9,7 @@ use Rattle.words.specs.Ring.{start, lowest}
 use Rattle.words.specs.Strand.{opposite}
 use Rattle.ring.specs.declared.judge.Verdict.{Verdict}
 use Rattle.ring.specs.declared.answer.Marked.{Marked}
-use Rattle.ring.specs.declared.keys.Strands.{Strands}
+use Rattle.ring.specs.declared.marking.Strands.{Strands}
 use Rattle.ring.specs.Judging.{numberOf, placeOf}
 
 -- the start as given, the start of the opposite strand, and 1 where the opposite strand's lowest reading is the lesser, else 0

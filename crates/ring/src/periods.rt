@@ -14,6 +14,7 @@ use super::judge::number_of;
 use super::judge::place_of;
 use super::matches::match_lengths;
 
+// An entry of a table as a number to count with.
 fn wide(x: u16) -> usize
     ensures { λ r. ⌜ r ≡ x ⌝ }
 {

@@ -7,7 +7,7 @@ use native.Mathlib.Omega.{arith}
 use lib.ListN.{length}
 use Rattle.words.proofs.Strand.{length-opposite}
 use Rattle.ring.specs.declared.judge.Verdict.the-variants.{Taken}
-use Rattle.ring.specs.declared.keys.Strands.{Strands}
+use Rattle.ring.specs.declared.marking.Strands.{Strands}
 use Rattle.ring.specs.Judging.{verdict}
 use Rattle.ring.specs.Answers.{keyVerdict}
 use Rattle.ring.proofs.Judging.{not-taken}
@@ -18,9 +18,9 @@ use Rattle.ring.proofs.keys.write_key.Reads as reads
 use Rattle.ring.proofs.keys.write_key.Lts as lts
 use Rattle.ring.proofs.judge.has_strands.Reads as has-strands-reads
 use Rattle.ring.proofs.judge.judge.Reads as judge-reads
-use Rattle.ring.proofs.keys.chosen.Reads as chosen-reads
-use Rattle.ring.proofs.keys.read_strands.Reads as read-strands-reads
-use Rattle.ring.proofs.keys.refused.Reads as refused-reads
+use Rattle.ring.proofs.marking.chosen.Reads as chosen-reads
+use Rattle.ring.proofs.marking.read_strands.Reads as read-strands-reads
+use Rattle.ring.proofs.marking.refused.Reads as refused-reads
 use Rattle.ring.proofs.keys.short_rooms.Reads as short-rooms-reads
 use Rattle.ring.proofs.reading.put_opposite.Reads as put-opposite-reads
 use Rattle.ring.proofs.reading.put_reading.Reads as put-reading-reads

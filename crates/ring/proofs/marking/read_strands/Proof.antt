@@ -1,4 +1,4 @@
--- `ring::keys::read_strands` meets its contract: the opposite strand stands at the front of a room of its own.
+-- `ring::marking::read_strands` meets its contract: the opposite strand stands at the front of a room of its own.
 -- Assumes nothing.
 use borrow.Author.Needs.{needs}
 use Rattle.ring.proofs.Marks.{found-within}
@@ -6,8 +6,8 @@ use mathlib.Core.Path.{refl}
 use mathlib.Core.Bool.{true, false}
 use Rattle.ring.proofs.Marks.{in-room, in-room-length, strands-by}
 use mathlib.Core.Path.{sym, _∙_}
-use Rattle.ring.proofs.keys.read_strands.Statement.{statement}
-use Rattle.ring.proofs.keys.read_strands.Tie as tie
+use Rattle.ring.proofs.marking.read_strands.Statement.{statement}
+use Rattle.ring.proofs.marking.read_strands.Tie as tie
 
 slice-aggregate-copy-opposite : tie.Need-slice-aggregate-copy-opposite
 slice-aggregate-copy-opposite c = search needs

@@ -1,4 +1,4 @@
--- `ring::keys::mark` meets its contract.
+-- `ring::marking::mark` meets its contract.
 -- Assumes nothing.
 use borrow.Author.Needs.{needs}
 use Rattle.ring.specs.Strands.{markedOn}
@@ -8,8 +8,8 @@ use mathlib.Core.Path.{sym, ap, _∙_}
 use Rattle.ring.proofs.Judging.{not-taken}
 use Rattle.ring.proofs.Exactly.{taken-permitted}
 use Rattle.ring.proofs.Marks.{marked-refused, marked-plain, marked-stranded}
-use Rattle.ring.proofs.keys.mark.Statement.{statement}
-use Rattle.ring.proofs.keys.mark.Tie as tie
+use Rattle.ring.proofs.marking.mark.Statement.{statement}
+use Rattle.ring.proofs.marking.mark.Tie as tie
 
 judge-requires : tie.Need-judge-requires
 judge-requires c κs = search needs

@@ -1,8 +1,8 @@
--- `ring::keys::refused` meets its contract.
+-- `ring::marking::refused` meets its contract.
 -- Assumes nothing.
 use borrow.Author.Needs.{needs}
-use Rattle.ring.proofs.keys.refused.Statement.{statement}
-use Rattle.ring.proofs.keys.refused.Tie as tie
+use Rattle.ring.proofs.marking.refused.Statement.{statement}
+use Rattle.ring.proofs.marking.refused.Tie as tie
 
 number-of-requires : tie.Need-number-of-requires
 number-of-requires c κs = search needs

@@ -1,11 +1,11 @@
--- `ring::keys::left_to` meets its contract: the opposite strand stands at the front of a room of its own.
+-- `ring::key_test::left_to` meets its contract: the opposite strand stands at the front of a room of its own.
 -- Assumes nothing.
 use borrow.Author.Needs.{needs}
 use Rattle.ring.proofs.Marks.{found-within}
 use mathlib.Core.Path.{sym}
 use Rattle.ring.proofs.Marks.{in-room, in-room-length, left-other, left-own}
-use Rattle.ring.proofs.keys.left_to.Statement.{statement}
-use Rattle.ring.proofs.keys.left_to.Tie as tie
+use Rattle.ring.proofs.key_test.left_to.Statement.{statement}
+use Rattle.ring.proofs.key_test.left_to.Tie as tie
 
 slice-aggregate-copy-opposite : tie.Need-slice-aggregate-copy-opposite
 slice-aggregate-copy-opposite c = search needs

@@ -1,4 +1,4 @@
--- `ring::keys::is_key` meets its contract: each return is the test that led there.
+-- `ring::key_test::is_key` meets its contract: each return is the test that led there.
 -- Assumes nothing.
 use borrow.Author.Needs.{needs}
 use mathlib.Core.Path.{sym, _∙_}
@@ -6,14 +6,14 @@ use Rattle.ring.specs.Judging.{Permitted}
 use Rattle.ring.proofs.Judging.{not-taken}
 use Rattle.ring.proofs.Exactly.{taken-permitted}
 use Rattle.ring.proofs.KeyTests.{test-refused, test-more, test-late, test-plain, test-strand, test-left}
-use Rattle.ring.proofs.keys.is_key.Statement.{statement}
-use Rattle.ring.proofs.keys.is_key.Tie as tie
-use Rattle.ring.proofs.keys.is_key.Reads as reads
-use Rattle.ring.proofs.keys.is_key.Lts as lts
+use Rattle.ring.proofs.key_test.is_key.Statement.{statement}
+use Rattle.ring.proofs.key_test.is_key.Tie as tie
+use Rattle.ring.proofs.key_test.is_key.Reads as reads
+use Rattle.ring.proofs.key_test.is_key.Lts as lts
 use Rattle.ring.proofs.factor.first_factor.Reads as first-factor-reads
 use Rattle.ring.proofs.judge.has_strands.Reads as has-strands-reads
 use Rattle.ring.proofs.judge.judge.Reads as judge-reads
-use Rattle.ring.proofs.keys.left_to.Reads as left-to-reads
+use Rattle.ring.proofs.key_test.left_to.Reads as left-to-reads
 
 abbrev Done : Type 0
 Done = lts.After-enum-told (judge-reads.Asked, judge-reads.Learnt, first-factor-reads.Asked, first-factor-reads.Learnt, has-strands-reads.Asked, has-strands-reads.Learnt, left-to-reads.Asked, left-to-reads.Learnt) reads.Pre reads.Post

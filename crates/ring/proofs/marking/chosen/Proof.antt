@@ -1,8 +1,8 @@
--- `ring::keys::chosen` meets its contract.
+-- `ring::marking::chosen` meets its contract.
 -- Assumes nothing.
 use borrow.Author.Tests.{eq-eqb, ne-eqb}
-use Rattle.ring.proofs.keys.chosen.Statement.{statement}
-use Rattle.ring.proofs.keys.chosen.Tie as tie
+use Rattle.ring.proofs.marking.chosen.Statement.{statement}
+use Rattle.ring.proofs.marking.chosen.Tie as tie
 
 returns : tie.Need-returns
 returns c = simp (eq-eqb _ _ (c .if1 .taken))

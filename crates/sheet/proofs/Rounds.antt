@@ -13,7 +13,7 @@ use Rattle.words.specs.Order.{before}
 use Rattle.words.specs.Kind.{known, strands}
 use Rattle.words.specs.Strand.{strand, keyStart, key}
 use Rattle.words.proofs.Kind.{no-strand}
-use Rattle.words.proofs.Strand.{strand-below}
+use Rattle.words.proofs.Molecule.{strand-below}
 use Rattle.ring.specs.Rule.{rule}
 use Rattle.ring.specs.Judging.{most, Permitted, firstBad, over}
 use Rattle.ring.proofs.Rules.{Clear, clear-join, clear-more, clear-done}

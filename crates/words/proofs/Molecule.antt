@@ -10,7 +10,7 @@ use native.Mathlib.Nat.{eq-or-lt-of-le}
 use lib.ListN.{length}
 use lib.Seq.{take-length, drop-length}
 use Rattle.words.specs.Order.{before}
-use Rattle.words.specs.Kind.{stranded}
+use Rattle.words.specs.Kind.{known, stranded, strands}
 use Rattle.words.specs.Ring.{reading, lowest, IsReading}
 use Rattle.words.specs.Strand.{opposite, strand, key, OneRing}
 use Rattle.words.proofs.Order.{before-true, before-false, Tri, tri, less, same, more, lt-le}
@@ -111,3 +111,12 @@ one-lowest kind u v (inr r) = inr (r .0, lowest-of-reading (opposite u) v (r .1)
 pub lowest-one : (kind : ℕ) (u v : List ℕ) → 0 < length u → 0 < length v → (lowest v ≡ lowest u) ⊎ ((stranded kind ≡ true) × (lowest v ≡ lowest (opposite u))) → OneRing kind u v
 lowest-one kind u v p q (inl e) = inl (reading-of-lowest u v p q e)
 lowest-one kind u v p q (inr e) = inr (e .0, reading-of-lowest (opposite u) v (rw length-opposite p) q (e .1))
+
+-- ---- the strand that holds the key is one of the kind's
+
+pub strand-below : (kind : ℕ) (w : List ℕ) → known kind ≡ true → strand kind w < strands kind
+unfolding strand strands
+strand-below kind w k =
+    by-test (stranded kind)
+    (λ t. by-test (before (lowest (opposite w)) (lowest w)) (λ b. rw (k, t, b) (omega arith)) (λ b. rw (k, t, b) (omega arith)))
+    (λ t. rw (k, t) (omega arith))

@@ -1,4 +1,4 @@
--- The opposite letter and the opposite strand: each undoes itself; the opposite strand turns with the ring; a key's strand is its kind's.
+-- The opposite letter and the opposite strand: each undoes itself; the opposite strand turns with the ring.
 -- Assumes nothing.
 use mathlib.Core.Path.{_≡_, refl, sym, ap, _∙_}
 use mathlib.Core.List.{List, [], _∷_, _++_, map, reverse, reverseAux, reverse-cons, reverse-reverse, reverse-append, map-append}
@@ -8,11 +8,9 @@ use lib.Dec.{eqb}
 use borrow.Author.Tests.{eqb-true}
 use lib.ListN.{length, take, drop, getD, length-drop, length-map, length-reverse, take-append-drop, List·getD-append, List·getD-map}
 use lib.Seq.{take-at, drop-at, getD-at}
-use mathlib.Core.Bool.{true}
-use Rattle.words.specs.Order.{before}
-use Rattle.words.specs.Kind.{known, stranded, strands, facing}
-use Rattle.words.specs.Ring.{reading, lowest}
-use Rattle.words.specs.Strand.{opposite, onStrand, strand}
+use Rattle.words.specs.Kind.{facing}
+use Rattle.words.specs.Ring.{reading}
+use Rattle.words.specs.Strand.{opposite, onStrand}
 use Rattle.words.proofs.Search.{by-test, either, lt-or-ge}
 
 pub facing-twice : (a : ℕ) → facing (facing a) ≡ a
@@ -88,11 +86,3 @@ pub opposite-at : (w : List ℕ) (i : ℕ) → i < length w → getD (opposite w
 unfolding opposite
 opposite-at w i h =
     reverse-at (map facing w) i (rw length-map h) ∙ ap (λ n. getD (map facing w) (n - 1 - i) 0) (length-map w facing) ∙ List·getD-map facing w (length w - 1 - i) 0
-
--- the strand that holds the key is one of the kind's
-pub strand-below : (kind : ℕ) (w : List ℕ) → known kind ≡ true → strand kind w < strands kind
-unfolding strand strands
-strand-below kind w k =
-    by-test (stranded kind)
-    (λ t. by-test (before (lowest (opposite w)) (lowest w)) (λ b. rw (k, t, b) (omega arith)) (λ b. rw (k, t, b) (omega arith)))
-    (λ t. rw (k, t) (omega arith))

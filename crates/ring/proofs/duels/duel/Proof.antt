@@ -2,6 +2,7 @@
 -- Assumes nothing.
 use mathlib.Core.Path.{sym, _∙_}
 use Rattle.ring.proofs.Judging.{not-taken}
+use Rattle.ring.proofs.Replies.{fought-refused, fought-done}
 use Rattle.ring.proofs.Exactly.{taken-permitted}
 use borrow.Author.Needs.{needs}
 use Rattle.ring.proofs.duels.duel.Statement.{statement}
@@ -23,7 +24,7 @@ returns : tie.Need-returns
 returns c =
     let e = c .before .before .before .judge .ensures in
     let r = not-taken (c .before .before .before .judge .result) (c .before .before .match .keys2) in
-    rw (← e, r) (cc)
+    fought-refused _ _ _ e r _ _ (c .before .number-of .ensures) (c .place-of .ensures)
 
 fight-requires : tie.Need-fight-requires
 fight-requires c κs =
@@ -33,7 +34,7 @@ fight-requires c κs =
 returns-2 : tie.Need-returns-2
 returns-2 c =
     let e = sym (c .before .before .before .judge .ensures) ∙ c .before .enum-told .given .1 in
-    rw e (cc)
+    fought-done _ _ e _ _ (c .fight .ensures .0) (c .fight .ensures .1)
 
 pub duel-spec : {M : Type 1} → statement M
 duel-spec =

@@ -5,15 +5,10 @@ use mathlib.Core.Path.{sym, _∙_}
 use borrow.Author.Tests.{ltb-false}
 use Rattle.words.proofs.Route.{route-is}
 use Rattle.ring.proofs.Judging.{not-taken}
+use Rattle.ring.proofs.Replies.{factored-refused, factored-done}
 use Rattle.ring.proofs.Exactly.{taken-permitted}
 use Rattle.ring.proofs.factor.factors.Statement.{statement}
 use Rattle.ring.proofs.factor.factors.Tie as tie
-use Rattle.ring.proofs.factor.factors.Reads as reads
-use Rattle.ring.proofs.factor.factors.Lts as lts
-use Rattle.ring.proofs.factor.fill_factors.Reads as fill-factors-reads
-use Rattle.ring.proofs.judge.judge.Reads as judge-reads
-use Rattle.ring.proofs.judge.number_of.Reads as number-of-reads
-use Rattle.ring.proofs.judge.place_of.Reads as place-of-reads
 
 judge-requires : tie.Need-judge-requires
 judge-requires c κs = search needs
@@ -31,7 +26,7 @@ returns : tie.Need-returns
 returns c =
     let e = c .before .before .before .judge .ensures in
     let r = not-taken (c .before .before .before .judge .result) (c .before .before .match .keys2) in
-    (rw (← e, r) (cc), rw (← e, r))
+    (factored-refused _ _ _ e r _ _ (c .before .number-of .ensures) (c .place-of .ensures), rw (← e, r))
 
 fill-factors-requires : tie.Need-fill-factors-requires
 fill-factors-requires c κs =
@@ -46,7 +41,7 @@ returns-2 c =
     let e = sym (c .before .before .before .before .before .before .judge .ensures) ∙ c .before .before .before .before .enum-told .given .1 in
     let f = taken-permitted _ _ _ e in
     let d = c .before .before .fill-factors .ensures in
-    (rw e (cc (d .0 .0, d .0 .1, route-is _ (f .0 .some))), rw e (d .1))
+    (factored-done _ _ e _ _ (d .0 .0) (d .0 .1 ∙ sym (route-is _ (f .0 .some))), rw e (d .1))
 
 pub factors-spec : {M : Type 1} → statement M
 factors-spec =

@@ -1,5 +1,7 @@
 -- `ring::judge::check` meets its contract.
 -- Assumes nothing.
+use mathlib.Core.Path.{ap, _∙_}
+use Rattle.ring.specs.Answers.{checkedAs}
 use borrow.Author.Needs.{needs}
 use Rattle.ring.proofs.judge.check.Statement.{statement}
 use Rattle.ring.proofs.judge.check.Tie as tie
@@ -11,7 +13,7 @@ said-requires : tie.Need-said-requires
 said-requires c κs = search needs
 
 returns : tie.Need-returns
-returns c = cc
+returns c = c .said .ensures ∙ ap checkedAs (c .before .judge .ensures)
 
 pub check-spec : {M : Type 1} → statement M
 check-spec = tie.close (tie.spec judge-requires said-requires returns)

@@ -3,6 +3,7 @@
 use mathlib.Core.Path.{sym, _∙_}
 use native.Mathlib.Omega.{arith}
 use Rattle.ring.proofs.Judging.{not-taken}
+use Rattle.ring.proofs.Replies.{repeated-refused, repeated-done}
 use Rattle.ring.proofs.Exactly.{taken-permitted}
 use borrow.Author.Needs.{needs}
 use Rattle.ring.proofs.periods.repeat.Statement.{statement}
@@ -24,7 +25,7 @@ returns : tie.Need-returns
 returns c =
     let e = c .before .before .before .judge .ensures in
     let r = not-taken (c .before .before .before .judge .result) (c .before .before .match .keys2) in
-    rw (← e, r) (cc)
+    repeated-refused _ _ _ e r _ _ (c .before .number-of .ensures) (c .place-of .ensures)
 
 slice-aggregate-match-lengths : tie.Need-slice-aggregate-match-lengths
 slice-aggregate-match-lengths c = search needs
@@ -46,7 +47,7 @@ first-period-requires c κs =
 returns-2 : tie.Need-returns-2
 returns-2 c =
     let e = sym (c .before .before .before .before .before .before .before .judge .ensures) ∙ c .before .before .before .before .before .enum-told .given .1 in
-    rw e (cc)
+    repeated-done _ _ e _ (c .first-period .ensures)
 
 pub repeat-spec : {M : Type 1} → statement M
 repeat-spec =

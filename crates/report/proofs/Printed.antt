@@ -1,51 +1,38 @@
 -- Lines one behind another: the key's line, the five lines, and which are printed.
 -- Assumes nothing.
 use mathlib.Core.Path.{_≡_, refl, sym, ap, _∙_}
-use mathlib.Core.Bool.{Bool, true, false}
+use mathlib.Core.Bool.{Bool, false}
 use mathlib.Core.List.{List, [], _∷_, _++_, append-assoc}
 use Prim.Native.Nat.{ℕ, _≤_, _<_, _+_, _-_}
 use native.Mathlib.Omega.{arith}
-use borrow.Author.Tests.{le-ltb}
+use borrow.Author.Tests.{eq-eqb, le-ltb}
 use borrow.Rule.Slice.PartMut.{putMid}
-use lib.Dec.{eqb}
 use lib.ListN.{length, take, drop, set, length-append, length-drop}
 use lib.Seq.{length-take-le}
 use Rattle.words.specs.Ring.{reading, lowest}
 use Rattle.words.specs.Strand.{onStrand, strand, keyStart, key}
-use Rattle.words.proofs.Search.{by-test}
-use Rattle.words.proofs.Ring.{start-is}
-use Rattle.words.proofs.Turn.{length-reading}
-use Rattle.words.proofs.Strand.{length-opposite}
-use Rattle.ring.specs.declared.judge.Verdict.{Verdict}
-use Rattle.ring.specs.declared.judge.Verdict.the-variants.{Taken, Kind, Empty, Long, Letter, Short}
-use Rattle.ring.specs.Judging.{Permitted, verdict, numberOf, placeOf, taken, over, Given, unknown, none, many, letter, lacking, done}
+use Rattle.ring.specs.Judging.{Permitted, verdict, numberOf, placeOf, over, Given, unknown, none, many, letter, lacking, done}
 use Rattle.ring.specs.Answers.{wroteRoom}
 use Rattle.ring.proofs.Laid.{Laid, laid-one, laid-part, laid-size}
 use Rattle.ring.proofs.Exactly.{given}
+use Rattle.ring.proofs.Verdicts.{number-refused}
+use Rattle.ring.proofs.Compared.{length-key}
+use Rattle.ring.proofs.Deposit.{start-below}
 use Rattle.report.specs.Decimal.{row}
 use Rattle.report.specs.Report.{kept, reportOn, reportOf, reportLength, reportRoom, headLine, factorLine, suffixLine, startLine, keyLine, fiveLines}
 
 -- ---- the key
 
-length-on : (s : ℕ) (w : List ℕ) → length (onStrand s w) ≡ length w
-length-on s w = by-test (eqb s 1) (λ t. rw t (length-opposite w)) (λ t. rw t)
-
 module _ (w : List ℕ) (p : Permitted 1 w) where
-  keyStart-within : keyStart 1 w < length w
-  unfolding keyStart
-  keyStart-within =
-      let n : length (onStrand (strand 1 w) w) ≡ length w = length-on (strand 1 w) w in
-      omega (arith, n, start-is (onStrand (strand 1 w) w) (rw n (p .some)) .within)
-
   pub keyStart-small : keyStart 1 w < 8192
-  keyStart-small = omega (arith, keyStart-within, p .within)
+  keyStart-small = omega (arith, start-below 1 w (p .some), p .within)
 
   key-is : key 1 w ≡ reading (onStrand (strand 1 w) w) (keyStart 1 w)
   unfolding key keyStart lowest
   key-is = refl
 
-  length-key : length (key 1 w) ≡ length w
-  length-key = ap length key-is ∙ length-reading (onStrand (strand 1 w) w) (keyStart 1 w) (rw length-on (omega (arith, keyStart-within))) ∙ length-on (strand 1 w) w
+  key-length : length (key 1 w) ≡ length w
+  key-length = length-key 1 w (p .some)
 
   -- the two numbers stand in front, and the key is written behind them
   module _ (o t y : List ℕ) (at : ℕ) (l : Laid (row 32 (strand 1 w ∷ keyStart 1 w ∷ [])) o t) (n : at ≡ length (row 32 (strand 1 w ∷ keyStart 1 w ∷ []))) (f : at ≤ 12) (h : 8300 ≤ length o)
@@ -59,16 +46,13 @@ module _ (w : List ℕ) (p : Permitted 1 w) where
     key-laid : Laid (row 32 (strand 1 w ∷ keyStart 1 w ∷ []) ++ key 1 w) o (putMid at (length t - at) t y)
     key-laid =
         let z : y ≡ over (key 1 w) (take (length t - at) (drop at t)) = q ∙ rw (le-ltb (length (take (length t - at) (drop at t))) (length w) (rw part (omega (arith, room, p .within))), ← key-is) in
-        laid-part _ (key 1 w) o t y at l (sym n) (omega (arith, room)) (rw length-key (omega (arith, room, p .within))) z
+        laid-part _ (key 1 w) o t y at l (sym n) (omega (arith, room)) (rw key-length (omega (arith, room, p .within))) z
 
     key-size : length (row 32 (strand 1 w ∷ keyStart 1 w ∷ []) ++ key 1 w) ≡ at + length w
-    key-size = length-append (row 32 (strand 1 w ∷ keyStart 1 w ∷ [])) (key 1 w) ∙ rw (← n, length-key)
+    key-size = length-append (row 32 (strand 1 w ∷ keyStart 1 w ∷ [])) (key 1 w) ∙ rw (← n, key-length)
 
     ended : Laid ((row 32 (strand 1 w ∷ keyStart 1 w ∷ []) ++ key 1 w) ++ (10 ∷ [])) o (set (putMid at (length t - at) t y) (at + length w) 10)
     ended = laid-one _ o _ key-laid (at + length w) 10 (sym key-size) (omega (arith, p .within))
-
-    pub part-size : length (putMid at (length t - at) t y) ≡ length o
-    part-size = laid-size _ o _ key-laid
 
     pub line-size : length (set (putMid at (length t - at) t y) (at + length w) 10) ≡ length o
     line-size = laid-size _ o _ ended
@@ -106,22 +90,6 @@ five w o t c l =
 
 -- ---- one line, where the ring is declined
 
-pub declined : (v : Verdict) → (numberOf v ≡ 0 → ⊥) → taken v ≡ false
-declined Taken h = absurd (h refl)
-declined Kind h = refl
-declined Empty h = refl
-declined Long h = refl
-declined (Letter i) h = refl
-declined Short h = refl
-
-pub accepted : (v : Verdict) → numberOf v ≡ 0 → taken v ≡ true
-accepted Taken h = refl
-accepted Kind h = absurd (omega arith)
-accepted Empty h = absurd (omega arith)
-accepted Long h = absurd (omega arith)
-accepted (Letter i) h = absurd (omega arith)
-accepted Short h = absurd (omega arith)
-
 small-place : (kind : ℕ) (w : List ℕ) (short : Bool) {k i : ℕ} → Given kind w short k i → i ≤ 8192
 small-place kind w short (unknown k) = omega arith
 small-place kind w short (none k e) = omega arith
@@ -144,8 +112,8 @@ module _ (b o : List ℕ) (n : ℕ) (q : n ≡ kept b) (h : 160000 ≤ length o)
   pub report-declined : (k p r : ℕ) (y : List ℕ) → k ≡ numberOf (verdict 1 (take n b) false) → p ≡ placeOf (verdict 1 (take n b) false) → (k ≡ 0 → ⊥)
       → r ≡ length (row 10 (k ∷ p ∷ [])) → y ≡ over (row 10 (k ∷ p ∷ [])) o → (r ≡ reportLength b (length o)) × (y ≡ reportRoom b o)
   report-declined k p r y e f d l z =
-      whole (row 10 (k ∷ p ∷ [])) (rw (declined (verdict 1 (take n b) false) (λ c. d (e ∙ c)), ← e, ← f)) r y l z
+      whole (row 10 (k ∷ p ∷ [])) (rw (number-refused (verdict 1 (take n b) false) (λ c. d (e ∙ c)), ← e, ← f)) r y l z
 
   pub report-accepted : (r : ℕ) (y : List ℕ) → numberOf (verdict 1 (take n b) false) ≡ 0 → r ≡ length (fiveLines (take n b)) → y ≡ over (fiveLines (take n b)) o
       → (r ≡ reportLength b (length o)) × (y ≡ reportRoom b o)
-  report-accepted r y e l z = whole (fiveLines (take n b)) (rw (accepted (verdict 1 (take n b) false) e)) r y l z
+  report-accepted r y e l z = whole (fiveLines (take n b)) (rw (eq-eqb (numberOf (verdict 1 (take n b) false)) 0 e)) r y l z

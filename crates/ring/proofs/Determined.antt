@@ -1,7 +1,8 @@
 -- Two outcomes of a public call that both meet its contract are equal: the answer, and every lent table or room afterwards.
 -- `Post` is the contract itself, as the check reads it from the source: of the arguments, the answer, and what is lent at exit.
 -- Assumes nothing.
-use mathlib.Core.Path.{_≡_, sym, _∙_}
+use mathlib.Core.Path.{_≡_}
+use Rattle.words.proofs.Search.{promised-one}
 use contract.Lifetimes
 use borrow.Fn.World
 use borrow.Fn.Kinds as Fn
@@ -47,58 +48,54 @@ use Rattle.ring.proofs.reading.write_reading
 use Rattle.ring.proofs.reading.write_reading.Kinds as write-reading-kinds
 use Rattle.ring.proofs.reading.write_reading.Reads as write-reading-reads
 
--- one value is promised, so two that are promised are one
-same : {A : Type 0} {x y z : A} → x ≡ z → y ≡ z → x ≡ y
-same p q = p ∙ sym q
-
 pub check-determined : (κs : Lifetimes.Lfts 1) (a : World.ArgsD check.signature κs) (r s : World.ResD check.signature κs) (e f : Clauses.AtExit (Fn.endedOf 1 check-kinds.ps check-kinds.r) κs)
     → check-reads.Post κs a r e → check-reads.Post κs a s f → r ≡ s
-check-determined κs a r s e f p q = same p q
+check-determined κs a r s e f p q = promised-one p q
 
 pub strands-of-determined : (κs : Lifetimes.Lfts 0) (a : World.ArgsD strands_of.signature κs) (r s : World.ResD strands_of.signature κs) (e f : Clauses.AtExit (Fn.endedOf 0 strands-of-kinds.ps strands-of-kinds.r) κs)
     → strands-of-reads.Post κs a r e → strands-of-reads.Post κs a s f → r ≡ s
-strands-of-determined κs a r s e f p q = same p q
+strands-of-determined κs a r s e f p q = promised-one p q
 
 pub factors-determined : (κs : Lifetimes.Lfts 2) (a : World.ArgsD factors.signature κs) (r s : World.ResD factors.signature κs) (e f : Clauses.AtExit (Fn.endedOf 2 factors-kinds.ps factors-kinds.r) κs)
     → factors-reads.Post κs a r e → factors-reads.Post κs a s f → (r ≡ s) × (now (e .1 .1 .0) ≡ now (f .1 .1 .0))
-factors-determined κs a r s e f p q = (same (p .0) (q .0), same (p .1) (q .1))
+factors-determined κs a r s e f p q = (promised-one (p .0) (q .0), promised-one (p .1) (q .1))
 
 pub suffixes-determined : (κs : Lifetimes.Lfts 2) (a : World.ArgsD suffixes.signature κs) (r s : World.ResD suffixes.signature κs) (e f : Clauses.AtExit (Fn.endedOf 2 suffixes-kinds.ps suffixes-kinds.r) κs)
     → suffixes-reads.Post κs a r e → suffixes-reads.Post κs a s f → (r ≡ s) × (now (e .1 .1 .0) ≡ now (f .1 .1 .0))
-suffixes-determined κs a r s e f p q = (same (p .0) (q .0), same (p .1) (q .1))
+suffixes-determined κs a r s e f p q = (promised-one (p .0) (q .0), promised-one (p .1) (q .1))
 
 pub starts-determined : (κs : Lifetimes.Lfts 2) (a : World.ArgsD starts.signature κs) (r s : World.ResD starts.signature κs) (e f : Clauses.AtExit (Fn.endedOf 2 starts-kinds.ps starts-kinds.r) κs)
     → starts-reads.Post κs a r e → starts-reads.Post κs a s f → (r ≡ s) × (now (e .1 .1 .0) ≡ now (f .1 .1 .0))
-starts-determined κs a r s e f p q = (same (p .0) (q .0), same (p .1) (q .1))
+starts-determined κs a r s e f p q = (promised-one (p .0) (q .0), promised-one (p .1) (q .1))
 
 pub duel-determined : (κs : Lifetimes.Lfts 1) (a : World.ArgsD duel.signature κs) (r s : World.ResD duel.signature κs) (e f : Clauses.AtExit (Fn.endedOf 1 duel-kinds.ps duel-kinds.r) κs)
     → duel-reads.Post κs a r e → duel-reads.Post κs a s f → r ≡ s
-duel-determined κs a r s e f p q = same p q
+duel-determined κs a r s e f p q = promised-one p q
 
 pub repeat-determined : (κs : Lifetimes.Lfts 1) (a : World.ArgsD repeat.signature κs) (r s : World.ResD repeat.signature κs) (e f : Clauses.AtExit (Fn.endedOf 1 repeat-kinds.ps repeat-kinds.r) κs)
     → repeat-reads.Post κs a r e → repeat-reads.Post κs a s f → r ≡ s
-repeat-determined κs a r s e f p q = same p q
+repeat-determined κs a r s e f p q = promised-one p q
 
 pub mark-determined : (κs : Lifetimes.Lfts 1) (a : World.ArgsD mark.signature κs) (r s : World.ResD mark.signature κs) (e f : Clauses.AtExit (Fn.endedOf 1 mark-kinds.ps mark-kinds.r) κs)
     → mark-reads.Post κs a r e → mark-reads.Post κs a s f → r ≡ s
-mark-determined κs a r s e f p q = same p q
+mark-determined κs a r s e f p q = promised-one p q
 
 pub write-key-determined : (κs : Lifetimes.Lfts 3) (a : World.ArgsD write_key.signature κs) (r s : World.ResD write_key.signature κs) (e f : Clauses.AtExit (Fn.endedOf 3 write-key-kinds.ps write-key-kinds.r) κs)
     → write-key-reads.Post κs a r e → write-key-reads.Post κs a s f → (r ≡ s) × (now (e .1 .1 .0) ≡ now (f .1 .1 .0)) × (now (e .1 .1 .1 .0) ≡ now (f .1 .1 .1 .0))
-write-key-determined κs a r s e f p q = (same (p .0) (q .0), same (p .1 .0) (q .1 .0), same (p .1 .1) (q .1 .1))
+write-key-determined κs a r s e f p q = (promised-one (p .0) (q .0), promised-one (p .1 .0) (q .1 .0), promised-one (p .1 .1) (q .1 .1))
 
 pub key-determined : (κs : Lifetimes.Lfts 2) (a : World.ArgsD key.signature κs) (r s : World.ResD key.signature κs) (e f : Clauses.AtExit (Fn.endedOf 2 key-kinds.ps key-kinds.r) κs)
     → key-reads.Post κs a r e → key-reads.Post κs a s f → (now r ≡ now s) × (r .ptr ≡ s .ptr)
-key-determined κs a r s e f p q = (same (p .0) (q .0), same (p .1) (q .1))
+key-determined κs a r s e f p q = (promised-one (p .0) (q .0), promised-one (p .1) (q .1))
 
 pub is-key-determined : (κs : Lifetimes.Lfts 1) (a : World.ArgsD is_key.signature κs) (r s : World.ResD is_key.signature κs) (e f : Clauses.AtExit (Fn.endedOf 1 is-key-kinds.ps is-key-kinds.r) κs)
     → is-key-reads.Post κs a r e → is-key-reads.Post κs a s f → r ≡ s
-is-key-determined κs a r s e f p q = same p q
+is-key-determined κs a r s e f p q = promised-one p q
 
 pub compare-determined : (κs : Lifetimes.Lfts 2) (a : World.ArgsD compare.signature κs) (r s : World.ResD compare.signature κs) (e f : Clauses.AtExit (Fn.endedOf 2 compare-kinds.ps compare-kinds.r) κs)
     → compare-reads.Post κs a r e → compare-reads.Post κs a s f → r ≡ s
-compare-determined κs a r s e f p q = same p q
+compare-determined κs a r s e f p q = promised-one p q
 
 pub write-reading-determined : (κs : Lifetimes.Lfts 2) (a : World.ArgsD write_reading.signature κs) (r s : World.ResD write_reading.signature κs) (e f : Clauses.AtExit (Fn.endedOf 2 write-reading-kinds.ps write-reading-kinds.r) κs)
     → write-reading-reads.Post κs a r e → write-reading-reads.Post κs a s f → (r ≡ s) × (now (e .1 .1 .1 .0) ≡ now (f .1 .1 .1 .0))
-write-reading-determined κs a r s e f p q = (same (p .0) (q .0), same (p .1) (q .1))
+write-reading-determined κs a r s e f p q = (promised-one (p .0) (q .0), promised-one (p .1) (q .1))

@@ -46,9 +46,6 @@ module _ (o t xs : List ℕ) (end at i : ℕ) (k : Rowed o t xs end at i) (h : i
     number-laid : Laid (k .written ++ decimal (getD xs i 0)) o (putMid at (length t - at) t y)
     number-laid = laid-part (k .written) (decimal (getD xs i 0)) o t y at (k .laid) (k .size) (omega (arith, laid-size _ o t (k .laid), k .few)) (omega (arith, laid-size _ o t (k .laid), k .few)) q
 
-    pub number-size : length (putMid at (length t - at) t y) ≡ length o
-    number-size = laid-size _ o _ number-laid
-
     -- and the byte behind it
     pub rowed-one : (b : ℕ) → Between xs end i b → Rowed o (set (putMid at (length t - at) t y) (at + c) b) xs end (at + c + 1) (i + 1)
     rowed-one b w =

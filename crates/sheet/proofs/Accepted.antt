@@ -13,7 +13,6 @@ use Rattle.words.specs.Kind.{known}
 use Rattle.words.proofs.Search.{by-test, neither}
 use Rattle.ring.specs.Judging.{Permitted}
 use Rattle.ring.proofs.Rules.{Clear, clear-join, clear-done, number-clear, done-clear, first-holds}
-use Rattle.ring.proofs.Exactly.{good-at}
 use Rattle.ring.proofs.Deposit.{passes-permitted, passes-key, passes-start, passes-strand, ring-passes}
 use Rattle.sheet.specs.Sheet.{Marks, low, high, trailerOf, bytesOf, marksOf, sheetOf, Written, depositOf, isMade}
 use Rattle.sheet.specs.Trailer.{Bytes, trailer, wayBack, before, marksIn, wrongMarks, formRules, notMade, sheetRules, sheetIn, foundOf, numberOf}
@@ -74,15 +73,6 @@ module _ (b : List ℕ) (c : Clear (formRules b)) where
 
   pub length-letters : length (marksIn b .letters) ≡ wayBack b
   length-letters = rw (length-take, length-drop) (omega (arith, reach, long))
-
-  -- the letters are those of a permitted ring
-  pub form-permitted : Permitted (marksIn b .kind) (marksIn b .letters)
-  form-permitted = record {
-    kinds = right .kind;
-    some = rw length-letters some;
-    within = rw length-letters (ltb-false _ _ (c .1 .1 .1 .0));
-    letters = good-at (marksIn b .kind) (marksIn b .letters) (ltb-false _ _ (c .1 .1 .1 .1 .1 .0));
-  }
 
   trailer-is : Bytes b → trailer b ≡ trailerOf (length (marksIn b .letters)) (marksIn b .start) (marksIn b .strand) (marksIn b .kind)
   trailer-is y =

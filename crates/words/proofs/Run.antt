@@ -1,7 +1,7 @@
 -- The start stands in the factor table as the first of a run of equal factors; what a loop over the runs knows.
 -- Assumes nothing.
 use mathlib.Core.Path.{_≡_, refl, sym, ap, _∙_}
-use mathlib.Core.Bool.{true, false}
+use mathlib.Core.Bool.{false}
 use mathlib.Core.List.{List, [], _∷_, _++_, append-nil, append-assoc}
 use Prim.Native.Nat.{ℕ, zero, suc, _≤_, _<_, _+_}
 use native.Mathlib.Omega.{arith}
@@ -122,10 +122,7 @@ module _ (w : List ℕ) (m p e : ℕ) (r : FirstRun (drop m w) p e) where
       either (eq-or-lt-of-le l) (λ d. is (better-new (reading w) m b (rw d (least-strict (reading w) (length w) (start w) b i q)) ∙ d))
       (λ d. under (better-either (λ k. k < start w) (reading w) m b d q) (run-skip (omega arith) d))
 
-  -- the same by the answer of the comparison
-  pub best-new : (b : ℕ) → m < length w → Best w m b → before (reading w m) (reading w b) ≡ true → Best w (m + e) m
-  best-new b h k t = rw t at (best-next b h k)
-
+  -- the best so far stays where the run's head reads no lower
   pub best-old : (b : ℕ) → m < length w → Best w m b → before (reading w m) (reading w b) ≡ false → Best w (m + e) b
   best-old b h k t = rw t at (best-next b h k)
 

@@ -90,16 +90,16 @@ five w o t c l =
 
 -- ---- one line, where the ring is declined
 
-small-place : (kind : ℕ) (w : List ℕ) (short : Bool) {k i : ℕ} → Given kind w short k i → i ≤ 8192
-small-place kind w short (unknown k) = omega arith
-small-place kind w short (none k e) = omega arith
-small-place kind w short (many k l) = omega arith
-small-place kind w short (letter k m i h b g) = omega arith
-small-place kind w short (lacking p t) = omega arith
-small-place kind w short (done p t) = omega arith
+small-place : (kind : ℕ) (w : List ℕ) (Lacks : Type 0) {k i : ℕ} → Given kind w Lacks k i → i ≤ 8192
+small-place kind w l (unknown k) = omega arith
+small-place kind w l (none k e) = omega arith
+small-place kind w l (many k m) = omega arith
+small-place kind w l (letter k m i h b g) = omega arith
+small-place kind w l (lacking p t) = omega arith
+small-place kind w l (done p t) = omega arith
 
 pub place-small : (kind : ℕ) (w : List ℕ) (short : Bool) → placeOf (verdict kind w short) ≤ 8192
-place-small kind w short = small-place kind w short (given kind w short)
+place-small kind w short = small-place kind w (short ≡ true) (given kind w short)
 
 -- ---- the report: n bytes are kept, and judged
 

@@ -69,7 +69,7 @@ permitted kind w k p m f = record { kinds = k; some = p; within = m; letters = g
 
 module _ (kind : ℕ) (w : List ℕ) (short : Bool) where
   abbrev Said : Verdict → Type 0
-  Said v = Given kind w short (numberOf v) (placeOf v)
+  Said v = Given kind w (short ≡ true) (numberOf v) (placeOf v)
 
   given-long : known kind ≡ true → kind ≤ 1 → 0 < length w → Said (verdict kind w short)
   given-long k l p =
@@ -78,7 +78,7 @@ module _ (kind : ℕ) (w : List ℕ) (short : Bool) where
       (λ m. either (lt-or-ge (firstBad kind w) (length w))
       (λ h. rw (says-letter kind w short l z m _ refl h) (letter k m (firstBad kind w) h (bad-here kind w h) (good-before kind w)))
       (λ f. by-test short (λ t. rw (says-short kind w short l z m f t) (lacking (permitted kind w k p m f) t))
-      (λ t. rw (says-taken kind w short l z m f t) (done (permitted kind w k p m f) t))))
+      (λ t. rw (says-taken kind w short l z m f t) (done (permitted kind w k p m f) (λ e. true≢false (sym e ∙ t))))))
 
   -- what is said is given
   pub given : Said (verdict kind w short)
@@ -91,13 +91,13 @@ module _ (kind : ℕ) (w : List ℕ) (short : Bool) where
 
   -- ---- what is taken
 
-  fits : {k i : ℕ} → Given kind w short k i → k ≡ 0 → Permitted kind w × (short ≡ false)
+  fits : {k i : ℕ} → Given kind w (short ≡ true) k i → k ≡ 0 → Permitted kind w × (short ≡ false)
   fits (unknown k) e = absurd (omega arith)
   fits (none k l) e = absurd (omega arith)
   fits (many k l) e = absurd (omega arith)
   fits (letter k l i h b g) e = absurd (omega arith)
   fits (lacking p t) e = absurd (omega arith)
-  fits (done p t) e = (p, t)
+  fits (done p n) e = (p, by-test short (λ t. absurd (n t)) (λ t. t))
 
   -- a call is done only on a permitted ring with room enough
   pub taken-permitted : verdict kind w short ≡ Taken → Permitted kind w × (short ≡ false)

@@ -62,16 +62,16 @@ ringRules kind w short =
 unfoldable pub verdict : ℕ → List ℕ → Bool → Verdict
 verdict kind w short = judged (ringRules kind w short) Taken
 
--- 01's table for rings: each number exactly when its condition holds and none before it in the order, and its place.
--- That a verdict's number and place are those given is `Numbers: given-exactly`
-pub data Given (kind : ℕ) (w : List ℕ) (short : Bool) : ℕ → ℕ → Type 0 where
-  unknown : known kind ≡ false → Given kind w short 6 0
-  none : known kind ≡ true → length w ≡ 0 → Given kind w short 1 0
-  many : known kind ≡ true → most < length w → Given kind w short 2 0
+-- 01's table for rings: each number exactly when its condition holds and none before it in the order, and its place. `Lacks` is 4's
+-- condition in the call's own terms: a needed table or room has too few entries
+pub data Given (kind : ℕ) (w : List ℕ) (Lacks : Type 0) : ℕ → ℕ → Type 0 where
+  unknown : known kind ≡ false → Given kind w Lacks 6 0
+  none : known kind ≡ true → length w ≡ 0 → Given kind w Lacks 1 0
+  many : known kind ≡ true → most < length w → Given kind w Lacks 2 0
   letter : known kind ≡ true → length w ≤ most → (i : ℕ) → i < length w → isLetter kind (getD w i 0) ≡ false
-      → ((j : ℕ) → j < i → isLetter kind (getD w j 0) ≡ true) → Given kind w short 3 i
-  lacking : Permitted kind w → short ≡ true → Given kind w short 4 0
-  done : Permitted kind w → short ≡ false → Given kind w short 0 0
+      → ((j : ℕ) → j < i → isLetter kind (getD w j 0) ≡ true) → Given kind w Lacks 3 i
+  lacking : Permitted kind w → Lacks → Given kind w Lacks 4 0
+  done : Permitted kind w → (Lacks → ⊥) → Given kind w Lacks 0 0
 
 -- a field of an answer: 0 where the call declines (01, "other fields are 0")
 abbrev pub field : Verdict → ℕ → ℕ

@@ -2,6 +2,9 @@
 pub mod Rule
 pub mod Judging
 pub mod Answers
+-- What the theorems of the demands speak of
+pub mod Calls
+pub mod Demands
 -- What only the contracts of inner functions cite
 pub mod Spaced
 pub mod Facings

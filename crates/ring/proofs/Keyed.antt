@@ -1,24 +1,29 @@
 -- The key's marks and both rooms, by the verdict and the kind.
 -- Assumes nothing.
-use mathlib.Core.Path.{_≡_, sym, ap, _∙_}
-use mathlib.Core.Bool.{true, false, _&&_}
-use mathlib.Core.List.{List}
+use mathlib.Core.Path.{_≡_, refl, sym, ap, _∙_}
+use mathlib.Core.Bool.{Bool, true, false, cond, _&&_}
+use mathlib.Core.List.{List, [], _∷_}
 use Prim.Native.Nat.{ℕ, _≤_}
+use native.Mathlib.Omega.{arith}
 use borrow.Author.Tests.{ltb-false}
 use lib.Dec.{ltb}
-use lib.ListN.{length}
+use lib.ListN.{length, drop}
 use Rattle.words.specs.Kind.{stranded}
 use Rattle.words.specs.Ring.{reading, start, lowest}
-use Rattle.words.specs.Strand.{opposite}
+use Rattle.words.specs.Strand.{opposite, strand, keyStart}
 use Rattle.words.proofs.Search.{by-test, neither}
+use Rattle.words.proofs.Strand.{length-opposite}
+use Rattle.words.proofs.TurnBack.{length-lowest}
 use Rattle.ring.specs.declared.judge.Verdict.{Verdict}
 use Rattle.ring.specs.declared.judge.Verdict.the-variants.{Taken}
 use Rattle.ring.specs.declared.answer.Marked.{Marked}
 use Rattle.ring.specs.declared.marking.Strands.{Strands}
-use Rattle.ring.specs.Judging.{Permitted, taken, over}
+use Rattle.ring.specs.Judging.{Permitted, Given, numberOf, placeOf, taken, field, over, after}
 use Rattle.ring.specs.Strands.{strandsOf, markedOn, refusedBy}
 use Rattle.ring.specs.Answers.{roomsShort, keyVerdict, keyedOf, firstRoom, secondRoom}
-use Rattle.ring.proofs.Exactly.{taken-permitted}
+use Rattle.ring.specs.Demands.{lent, AsRuled, LacksRoom}
+use Rattle.ring.proofs.Exactly.{taken-is, taken-permitted}
+use Rattle.ring.proofs.Numbers.{ruled, rooms-few, left-alone, written-beyond}
 use Rattle.ring.proofs.Marks.{marked-refused, marked-plain, marked-stranded}
 
 -- the rooms that a taken ring has
@@ -67,3 +72,41 @@ module _ (kind : ℕ) (w first second : List ℕ) where
       front = f ∙ rw (x, g);
       back = h ∙ rw (x, g, k);
     }
+
+-- ---- the rooms by the table, and the part that comes back
+
+-- a room that is written only if a test says so
+if-alone : (t : Bool) (v : Verdict) (new old : List ℕ) → taken v ≡ false → cond t (after v new old) old ≡ old
+if-alone true v new old e = left-alone v new old e
+if-alone false v new old e = refl
+
+if-beyond : (t : Bool) (v : Verdict) (new old : List ℕ) (n : ℕ) → n ≡ length new → (t ≡ true → n ≤ length old) → taken v ≡ true
+    → (length (cond t (after v new old) old) ≡ length old) × (drop (cond t n 0) (cond t (after v new old) old) ≡ drop (cond t n 0) old)
+if-beyond true v new old n f h e = written-beyond v new old n f (h refl) e
+if-beyond false v new old n f h e = (refl, refl)
+
+module _ (kind : ℕ) (w first second : List ℕ) where
+  abbrev v : Verdict
+  v = keyVerdict kind w (length first) (length second)
+
+  counted : (u : List ℕ) → length u ≡ length w → taken v ≡ true → field v (length w) ≡ length (lowest u)
+  counted u n e = rw e (sym (length-lowest u (rw n (key-permitted kind w _ _ (taken-is v e) .some)) ∙ n))
+
+  fits : (size : ℕ) → length w ≤ size → field v (length w) ≤ size
+  fits size h = by-test (taken v) (λ e. rw e h) (λ e. rw e (omega arith))
+
+  -- the answer and both rooms obey the table
+  pub rooms-ruled : AsRuled (Given kind w (LacksRoom kind w first second)) (numberOf v) (placeOf v)
+      (field v (length w) ∷ field v (keyStart kind w) ∷ field v (strand kind w) ∷ [])
+      (lent first (firstRoom kind w first (length second)) (field v (length w))
+      ∷ lent second (secondRoom kind w (length first) second) (cond (stranded kind) (field v (length w)) 0) ∷ [])
+  rooms-ruled =
+      ruled kind w (roomsShort kind w (length first) (length second)) (rooms-few kind w first second) _ _
+      (λ e. ((rw e refl, (rw e refl, (rw e refl, tt))), (left-alone v (lowest w) first e, (if-alone (stranded kind) v (lowest (opposite w)) second e, tt))))
+      (λ e. let t : v ≡ Taken = taken-is v e in (
+        written-beyond v (lowest w) first (field v (length w)) (counted w refl e) (fits _ (first-fits kind w _ _ t)) e,
+        (
+          if-beyond (stranded kind) v (lowest (opposite w)) second (field v (length w)) (counted (opposite w) (length-opposite w) e) (λ s. fits _ (second-fits kind w _ _ t s)) e,
+          tt,
+        ),
+      ))

@@ -8,6 +8,7 @@ pub mod Routing
 pub mod Exactly
 pub mod Numbers
 pub mod Determined
+pub mod Contracts
 pub mod Permits
 pub mod Equal
 pub mod Written
@@ -15,9 +16,12 @@ pub mod Marks
 pub mod Keyed
 pub mod KeyPart
 pub mod KeyFit
+pub mod KeyOf
+pub mod Entries
 pub mod KeyTests
 pub mod Compared
 pub mod Rules
 pub mod Verdicts
 pub mod Deposit
 pub mod Routes
+pub mod Demands

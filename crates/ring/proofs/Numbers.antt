@@ -1,23 +1,23 @@
 -- Each number of 01's table is given exactly when 01 says, with its place; and what that makes of a call with these rules.
 -- Assumes nothing.
 use mathlib.Core.Path.{_≡_, refl, sym, ap, subst}
-use mathlib.Core.Logic.{_↔_, _⊎_, inl, inr}
+use mathlib.Core.Logic.{_↔_, inl, inr}
 use mathlib.Core.Bool.{Bool, true, false, true≢false}
-use mathlib.Core.List.{List}
-use Prim.Native.Nat.{ℕ, _≤_, _<_, _+_}
+use mathlib.Core.List.{List, [], _∷_}
+use Prim.Native.Nat.{ℕ, _≤_, _<_}
 use native.Mathlib.Omega.{arith}
-use borrow.Author.Tests.{leb-true, leb-false, lt-ltb, ltb-true, eq-eqb, ne-eqb}
+use borrow.Author.Tests.{leb-true, leb-false, lt-ltb, ltb-true, ltb-false, eq-eqb, ne-eqb}
 use lib.Dec.{ltb}
 use lib.ListN.{length, drop, length-append, length-drop}
 use lib.Seq.{drop-at}
 use Rattle.words.specs.Kind.{stranded}
 use Rattle.words.proofs.Search.{by-test, either}
 use Rattle.ring.specs.declared.judge.Verdict.{Verdict}
-use Rattle.ring.specs.Judging.{firstBad, numberOf, placeOf, taken, verdict, over, after, Given, unknown, none, many, letter, lacking, done}
-use Rattle.ring.specs.Answers.{roomsShort}
-use Rattle.ring.specs.Demands.{Lent, Zeros, AsLent, Beyond, AsRuled, LacksRoom}
+use Rattle.ring.specs.Judging.{firstBad, numberOf, placeOf, taken, verdict, after, Given, unknown, none, many, letter, lacking, done}
+use Rattle.ring.specs.Answers.{fewer, roomsShort}
+use Rattle.ring.specs.Demands.{Lent, lent, Zeros, AsLent, Beyond, AsRuled, LacksRoom}
 use Rattle.ring.proofs.Judging.{says-kind, says-empty, says-long, says-letter}
-use Rattle.ring.proofs.Exactly.{bad-is, given, permitted-taken, permitted-short}
+use Rattle.ring.proofs.Exactly.{bad-is, given, taken-is, taken-permitted, permitted-taken, permitted-short}
 
 -- the table with 4 in other words
 given-for : (kind : ℕ) (w : List ℕ) {P Q : Type 0} → P ↔ Q → {k i : ℕ} → Given kind w P k i → Given kind w Q k i
@@ -95,3 +95,15 @@ module _ (v : Verdict) (new old : List ℕ) where
       → (length (after v new old) ≡ length old) × (drop n (after v new old) ≡ drop n old)
   written-beyond n f h e =
       (rw e (simp (length-append, length-drop) (omega arith)), rw (e, f, drop-at new (drop (length new) old) (length new) refl))
+
+-- a call that is lent a table, written with `new` when it is done
+pub table-ruled : (kind : ℕ) (w new table others : List ℕ) (n : ℕ) → length new ≤ length w
+    → (taken (verdict kind w (fewer (length table) w)) ≡ false → Zeros others) → (taken (verdict kind w (fewer (length table) w)) ≡ true → n ≡ length new)
+    → AsRuled (Given kind w (length table < length w)) (numberOf (verdict kind w (fewer (length table) w))) (placeOf (verdict kind w (fewer (length table) w))) others
+    (lent table (after (verdict kind w (fewer (length table) w)) new table) n ∷ [])
+table-ruled kind w new table others n h z m =
+    let v : Verdict = verdict kind w (fewer (length table) w) in
+    ruled kind w (fewer (length table) w) (too-few (length table) (length w)) others (lent table (after v new table) n ∷ [])
+    (λ e. (z e, (left-alone v new table e, tt)))
+    (λ e. let f : length w ≤ length table = ltb-false _ _ (taken-permitted kind w _ (taken-is v e) .1) in
+    (written-beyond v new table n (m e) (omega (arith, m e)) e, tt))

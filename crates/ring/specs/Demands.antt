@@ -7,7 +7,7 @@ use mathlib.Core.List.{List, [], _∷_}
 use Prim.Native.Nat.{ℕ, _≤_, _<_, _-_, _*_}
 use lib.ListN.{length, take, drop, getD}
 use Rattle.words.specs.Order.{_≺_, _≼_}
-use Rattle.words.specs.Kind.{stranded, strands}
+use Rattle.words.specs.Kind.{stranded}
 use Rattle.words.specs.Ring.{IsStart, reading, lowest}
 use Rattle.words.specs.Strand.{opposite, onStrand, OneRing}
 use Rattle.words.specs.Factor.{IsFactors, firsts}

@@ -1,0 +1,157 @@
+-- The three demands on the calls on rings: read this after `specs/`. Every theorem is about what a public call answers and what it
+-- leaves in the lent tables and rooms; `Contracts` shows that whatever meets a call's contract is such a call.
+-- Assumes nothing.
+use mathlib.Core.Path.{_≡_, refl, sym, ap, _∙_}
+use mathlib.Core.Logic.{_↔_}
+use mathlib.Core.Bool.{true, false, cond}
+use mathlib.Core.List.{List, [], _∷_}
+use Prim.Native.Nat.{ℕ, _≤_, _<_, _-_}
+use native.Mathlib.Omega.{arith}
+use borrow.Author.Tests.{eq-eqb}
+use lib.Dec.{eqb}
+use lib.ListN.{length, take, getD}
+use Rattle.words.specs.Kind.{stranded}
+use Rattle.words.specs.Ring.{IsStart, start, lowest}
+use Rattle.words.specs.Strand.{opposite, key}
+use Rattle.words.specs.Factor.{factorTable}
+use Rattle.words.specs.Prefix.{IsLeastSuffix, leastSuffix, suffixTable, startTable}
+use Rattle.words.specs.Repeat.{IsRepeat}
+use Rattle.words.proofs.Ring.{start-is}
+use Rattle.words.proofs.Repeat.{repeat-is, repeat-one}
+use Rattle.words.proofs.Runs.{table-few}
+use Rattle.words.proofs.Prefix.{leastSuffix-is, length-suffixTable, suffixTable-at, length-startTable, startTable-at}
+use Rattle.ring.specs.declared.answer.Checked.{Checked}
+use Rattle.ring.specs.declared.answer.Factored.{Factored}
+use Rattle.ring.specs.declared.answer.Fought.{Fought}
+use Rattle.ring.specs.declared.answer.Repeated.{Repeated}
+use Rattle.ring.specs.declared.answer.Marked.{Marked}
+use Rattle.ring.specs.declared.answer.Compared.{Compared}
+use Rattle.ring.specs.Judging.{Permitted, Given, verdict, numberOf}
+use Rattle.ring.specs.Answers.{fewer, keyVerdict}
+use Rattle.ring.specs.Calls.{CheckCall, FactorsCall, SuffixesCall, StartsCall, DuelCall, RepeatCall, MarkCall, WriteKeyCall, KeyCall, CompareCall}
+use Rattle.ring.specs.Demands.{lent, AsRuled, LacksRoom, GivenOf, Divided, KeyOf, OneStart, OneMolecule}
+use Rattle.ring.proofs.Numbers.{nothing-lent, ruled, table-ruled}
+use Rattle.ring.proofs.Entries.{divided, prefix-is}
+use Rattle.ring.proofs.KeyOf.{key-of, key-only}
+use Rattle.ring.proofs.KeyPart.{part-refused, marked-key, part-done, rooms-hold, roomy}
+use Rattle.ring.proofs.Keyed.{rooms-ruled}
+use Rattle.ring.proofs.Compared.{compared-exactly, compared-no, plain-no, six-first, yes-keys, yes-one}
+use Rattle.ring.proofs.Verdicts.{number-permitted}
+use Rattle.ring.proofs.Routes.{one-start}
+
+-- ==== 1. Every call takes every input; it declines by 01's number, in 01's order, exactly on the stated condition, and a call that
+-- declines has changed nothing
+
+module _ {w : List ℕ} {kind : ℕ} where
+  pub check-ruled : {r : Checked} → CheckCall w kind r → AsRuled (Given kind w ⊥) (r .number) (r .place) [] []
+  check-ruled c = rw (c .answer) (ruled kind w false nothing-lent [] [] (λ e. (tt, tt)) (λ e. tt))
+
+  pub factors-ruled : {table left : List ℕ} {r : Factored} → FactorsCall w kind table r left
+      → AsRuled (Given kind w (length table < length w)) (r .number) (r .place) (r .count ∷ r .start ∷ []) (lent table left (r .count) ∷ [])
+  factors-ruled c = rw (c .answer, c .leaves) (table-ruled kind w (factorTable w) _ _ _ (table-few w) (λ e. (rw e refl, (rw e refl, tt))) (λ e. rw e refl))
+
+  pub suffixes-ruled : {table left : List ℕ} {r : Checked} → SuffixesCall w kind table r left
+      → AsRuled (Given kind w (length table < length w)) (r .number) (r .place) [] (lent table left (length w) ∷ [])
+  suffixes-ruled c = rw (c .answer, c .leaves) (table-ruled kind w (suffixTable w) _ [] (length w) (omega (arith, length-suffixTable w)) (λ e. tt) (λ e. sym (length-suffixTable w)))
+
+  pub starts-ruled : {table left : List ℕ} {r : Checked} → StartsCall w kind table r left
+      → AsRuled (Given kind w (length table < length w)) (r .number) (r .place) [] (lent table left (length w) ∷ [])
+  starts-ruled c = rw (c .answer, c .leaves) (table-ruled kind w (startTable w) _ [] (length w) (omega (arith, length-startTable w)) (λ e. tt) (λ e. sym (length-startTable w)))
+
+  pub duel-ruled : {r : Fought} → DuelCall w kind r → AsRuled (Given kind w ⊥) (r .number) (r .place) (r .start ∷ r .pairs ∷ []) []
+  duel-ruled c = rw (c .answer) (ruled kind w false nothing-lent _ [] (λ e. ((rw e refl, (rw e refl, tt)), tt)) (λ e. tt))
+
+  pub repeat-ruled : {r : Repeated} → RepeatCall w kind r → AsRuled (Given kind w ⊥) (r .number) (r .place) (r .repeat ∷ []) []
+  repeat-ruled c = rw (c .answer) (ruled kind w false nothing-lent _ [] (λ e. ((rw e refl, tt), tt)) (λ e. tt))
+
+  pub mark-ruled : {r : Marked} → MarkCall w kind r → AsRuled (Given kind w ⊥) (r .number) (r .place) (r .n ∷ r .start ∷ r .strand ∷ []) []
+  mark-ruled c = rw (c .answer) (ruled kind w false nothing-lent _ [] (λ e. ((rw e refl, (rw e refl, (rw e refl, tt))), tt)) (λ e. tt))
+
+  -- for kind 0 nothing of the second room is written
+  pub write-key-ruled : {first second one two : List ℕ} {r : Marked} → WriteKeyCall w kind first second r one two
+      → AsRuled (Given kind w (LacksRoom kind w first second)) (r .number) (r .place) (r .n ∷ r .start ∷ r .strand ∷ [])
+      (lent first one (r .n) ∷ lent second two (cond (stranded kind) (r .n) 0) ∷ [])
+  write-key-ruled {first} {second} c = rw (c .answer, c .front, c .back) (rooms-ruled kind w first second)
+
+-- the comparison, with the ring that it names; 6 names the first; a refused one says no; different lengths of permitted rings are a plain no
+module _ {kind : ℕ} {u v : List ℕ} {r : Compared} (c : CompareCall kind u v r) where
+  pub compare-exactly : (k i x : ℕ) → ((r .number ≡ k) × (r .place ≡ i) × (r .ring ≡ x)) ↔ GivenOf kind u v k i x
+  compare-exactly k i x = rw (c .answer) (compared-exactly kind u v k i x)
+
+  pub compare-refused : (r .number ≡ 0 → ⊥) → r .same ≡ false
+  compare-refused = rw (c .answer) (compared-no kind u v)
+
+  pub compare-lengths : Permitted kind u → Permitted kind v → (length u ≡ length v → ⊥) → r ≡ record { number = 0; place = 0; ring = 0; same = false }
+  compare-lengths p q n = c .answer ∙ plain-no kind u v p q n
+
+  pub compare-six : r .number ≡ 6 → r .ring ≡ 1
+  compare-six e = six-first kind u v (compare-exactly 6 (r .place) (r .ring) .0 (e, refl, refl)) refl
+
+-- ==== 2. Factors, least suffixes and starts of prefixes are those of the published definitions, and the key is 01's
+
+module _ {w : List ℕ} {kind : ℕ} {table left : List ℕ} where
+  -- the table's front holds the first positions of the only division into Lyndon words of which none is less than the one after it
+  pub factors-divided : {r : Factored} → FactorsCall w kind table r left → r .number ≡ 0 → Divided w (r .count) left
+  factors-divided c z = rw (c .answer, c .leaves) (divided kind w table (ap (λ (r : Factored). r .number) (sym (c .answer)) ∙ z))
+
+  -- entry L - 1 is the first position of the least suffix of the prefix of length L
+  pub suffixes-least : {r : Checked} → SuffixesCall w kind table r left → r .number ≡ 0 → (size : ℕ) → 0 < size → size ≤ length w
+      → IsLeastSuffix (take size w) (getD left (size - 1) 0)
+  suffixes-least c z =
+      rw (c .leaves) (prefix-is (verdict kind w (fewer (length table) w)) (suffixTable w) table (ap (λ (r : Checked). r .number) (sym (c .answer)) ∙ z) IsLeastSuffix leastSuffix leastSuffix-is w (length-suffixTable w) (suffixTable-at w))
+
+  -- entry L - 1 is the start of the ring made of the prefix of length L alone
+  pub starts-start : {r : Checked} → StartsCall w kind table r left → r .number ≡ 0 → (size : ℕ) → 0 < size → size ≤ length w
+      → IsStart (take size w) (getD left (size - 1) 0)
+  starts-start c z =
+      rw (c .leaves) (prefix-is (verdict kind w (fewer (length table) w)) (startTable w) table (ap (λ (r : Checked). r .number) (sym (c .answer)) ∙ z) IsStart start start-is w (length-startTable w) (startTable-at w))
+
+-- the repeat, and no other number is
+pub repeat-least : {w : List ℕ} {kind : ℕ} {r : Repeated} → RepeatCall w kind r → r .number ≡ 0 → IsRepeat w (r .repeat) × ((p : ℕ) → IsRepeat w p → p ≡ r .repeat)
+repeat-least {w} {kind} c z =
+    let e : numberOf (verdict kind w false) ≡ 0 = ap (λ (r : Repeated). r .number) (sym (c .answer)) ∙ z in
+    rw (c .answer, eq-eqb _ 0 e) (repeat-is w (number-permitted kind w false e .some), repeat-one w)
+
+-- the key: its start and strand from `mark`; no other letters, start and strand are a key of the ring
+module _ {w : List ℕ} {kind : ℕ} {m : Marked} (c : MarkCall w kind m) (z : m .number ≡ 0) where
+  pub mark-key : (m .n ≡ length w) × KeyOf kind w (m .start) (m .strand) (key kind w)
+  mark-key =
+      let e : numberOf (verdict kind w false) ≡ 0 = ap (λ (m : Marked). m .number) (sym (c .answer)) ∙ z in
+      rw (c .answer, eq-eqb _ 0 e) (refl, key-of kind w (number-permitted kind w false e .some))
+
+  pub mark-only : (at s : ℕ) (k : List ℕ) → KeyOf kind w at s k → (at ≡ m .start) × (s ≡ m .strand) × (k ≡ key kind w)
+  mark-only at s k o = key-only kind w at (m .start) s (m .strand) k (key kind w) o (mark-key .1)
+
+-- the rooms that `write_key` fills, and the part that `key` hands back: its numbers come from `write_key` on the same input
+module _ {w : List ℕ} {kind : ℕ} {first second one two : List ℕ} {m : Marked} (c : WriteKeyCall w kind first second m one two) where
+  number-said : m .number ≡ numberOf (keyVerdict kind w (length first) (length second))
+  number-said = ap (λ (m : Marked). m .number) (c .answer)
+
+  pub write-key-rooms : m .number ≡ 0 → (take (m .n) one ≡ lowest w) × (stranded kind ≡ true → take (m .n) two ≡ lowest (opposite w))
+  write-key-rooms z =
+      let n : m .n ≡ length w = ap (λ (m : Marked). m .n) (c .answer) ∙ rw (eq-eqb _ 0 (sym number-said ∙ z)) in
+      rw (n, c .front, c .back) (rooms-hold kind w first second (sym number-said ∙ z))
+
+  module _ {p q at : ℕ × ℕ} {part : List ℕ} (k : KeyCall w kind first second p q part at) where
+    -- refused: an empty part at the front of the first room
+    pub key-refused : (m .number ≡ 0 → ⊥) → (part ≡ []) × (at ≡ p)
+    key-refused n = let e = part-refused kind w first second (λ z. n (number-said ∙ z)) in (k .is ∙ e .0, k .place ∙ rw (e .1))
+
+    -- done: the key, in the room that its strand names
+    pub key-is : m .number ≡ 0 → KeyOf kind w (m .start) (m .strand) part × (at ≡ cond (eqb (m .strand) 1) q p)
+    key-is z = rw (k .is, k .place, c .answer) (rw (part-done kind w first second (sym number-said ∙ z)) (marked-key kind w first second (sym number-said ∙ z)), refl)
+
+-- ==== 3. For every kind and every permitted ring with room enough: the starts from the factors, from the duels and from the last entry
+-- of the start table are one number, the start and no other; the pairs are the duels', at most three a letter. And of two permitted
+-- rings: yes, equal keys, and one being a turn of the other or of its opposite strand are the same
+
+module _ {kind : ℕ} {u v : List ℕ} (p : Permitted kind u) (q : Permitted kind v) where
+  pub routes-agree : {t s t' s' : List ℕ} {f : Factored} {d : Fought} {x : Checked} {a b a' b' : List ℕ} {i j i' j' at at' : ℕ × ℕ} {k l : List ℕ} {c : Compared}
+      → FactorsCall u kind t f t' → length u ≤ length t → DuelCall u kind d → StartsCall u kind s x s' → length u ≤ length s
+      → KeyCall u kind a b i j k at → (LacksRoom kind u a b → ⊥) → KeyCall v kind a' b' i' j' l at' → (LacksRoom kind v a' b' → ⊥) → CompareCall kind u v c
+      → OneStart u f d s' × OneMolecule kind u v c k l
+  routes-agree {s = s} {a = a} {b = b} {a' = a'} {b' = b'} ft ht du st hs ku hu kv hv co = (
+    rw (ft .answer, du .answer, st .leaves) (one-start kind u p _ ht s hs),
+    rw (ku .is, kv .is, co .answer, part-done kind u a b (roomy kind u a b p hu), part-done kind v a' b' (roomy kind v a' b' q hv))
+        (record { keys = yes-keys kind u v p q; molecule = yes-one kind u v p q }),
+  )

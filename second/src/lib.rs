@@ -8,6 +8,7 @@ pub mod facts;
 pub mod keys;
 pub mod lent;
 pub mod long;
+pub mod long_sheets;
 pub mod part_comparison;
 pub mod plain;
 pub mod probe;

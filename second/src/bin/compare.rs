@@ -1,15 +1,19 @@
 //! Compares the library with the second program on many rings. One line for each stage, or the first difference.
 use second::cases::{self, Numbers};
 use second::comparison::Comparison;
+use second::long_sheets::{changed, cut, marks, wrong_letters};
 use second::report_comparison::{processes, reports};
 use second::ring_cases::{every_key, refusals, ring, sizes};
 use second::sheet_cases::{damaged, sheet, trailers};
 use second::{facts, report};
 use std::time::Instant;
 
+/// Bytes for the letters A, C, G, T of a feature ring: in their order, against it, and mixed.
+const CODES: [[u8; 4]; 3] = [[0, 127, 128, 255], [255, 128, 127, 0], [128, 0, 255, 127]];
+
 type Stage = fn(&mut Comparison, &mut Numbers);
 
-const STAGES: [(&str, Stage); 10] = [
+const STAGES: [(&str, Stage); 12] = [
     ("refusals and their collisions", |c, _| refusals(c)),
     ("every ring over AC to 15, AT to 11, ACGT to 8, six bytes to 5", every_ring),
     ("sizes of tables and rooms, letters judged as keys, pairs of rings", every_size),
@@ -18,7 +22,9 @@ const STAGES: [(&str, Stage); 10] = [
     ("books with every byte changed, every truncation", damaged_books),
     ("families from 15 to 1,000 letters", families),
     ("random rings to 300 letters", random_rings),
-    ("families to 8,192 letters", long_rings),
+    ("families to 8,192 letters, of bases and of bytes", long_rings),
+    ("sheets to 8,192 letters with wrong letters", far_letters),
+    ("sheets to 8,192 letters with bytes and marks changed, cut, and with bytes before", long_damage),
     ("reports in rooms about 160,000 bytes", reports),
 ];
 
@@ -96,16 +102,43 @@ fn random_rings(c: &mut Comparison, numbers: &mut Numbers) {
     }
 }
 
+/// Each family, for kind 0 in other bytes and with a ring of every byte; the sheets of a length make a book.
 fn long_rings(c: &mut Comparison, numbers: &mut Numbers) {
-    for n in [2048, 4096, 8191, 8192] {
+    for (kind, n) in [(1, 2048), (1, 4096), (1, 8191), (1, 8192), (0, 2048), (0, 4095), (0, 8192)] {
+        let mut rings = cases::families(numbers, n);
+        if kind == 0 {
+            rings = rings.iter().enumerate().map(|(i, word)| cases::recoded(word, CODES[(i + n) % 3])).collect();
+            rings.push((0..n).map(|_| numbers.next() as u8).collect());
+        }
         let mut book = Vec::new();
-        for word in cases::families(numbers, n) {
-            ring(c, 1, &word, numbers);
-            book.extend(sheet(c, 1, &word, numbers));
+        for word in rings {
+            ring(c, kind, &word, numbers);
+            book.extend(sheet(c, kind, &word, numbers));
         }
         c.sheet_walk(&book);
-        let bytes: Vec<u8> = (0..n).map(|_| numbers.next() as u8).collect();
-        ring(c, 0, &bytes, numbers);
+    }
+}
+
+fn far_letters(c: &mut Comparison, numbers: &mut Numbers) {
+    for n in [257, 300, 512, 1000, 2049, 8192] {
+        let deposit = numbers.word(b"ACGT", n);
+        let bytes = sheet(c, 1, &deposit, numbers);
+        wrong_letters(c, numbers, &bytes);
+    }
+}
+
+fn long_damage(c: &mut Comparison, numbers: &mut Numbers) {
+    for n in [300, 777, 1024, 4095, 8192] {
+        let unit = numbers.word(b"ACGT", 1 + n / 5);
+        let repeated = if n % 2 == 0 { cases::over(&unit, n) } else { cases::fibonacci(b'T', b'A', n) };
+        for (i, word) in [numbers.word(b"ACGT", n), repeated].into_iter().enumerate() {
+            for (kind, deposit) in [(0, cases::recoded(&word, CODES[(i + n) % 3])), (1, word)] {
+                let bytes = sheet(c, kind, &deposit, numbers);
+                changed(c, numbers, &bytes);
+                marks(c, numbers, &bytes);
+                cut(c, numbers, &bytes);
+            }
+        }
     }
 }
 

@@ -9,3 +9,4 @@ pub mod Walking
 pub mod Numbers
 pub mod Examples
 pub mod Determined
+pub mod Contracts

@@ -22,9 +22,9 @@ use Rattle.sheet.specs.Calls.{WriteCall, OriginalCall}
 pub data Wrong (t : List ℕ) : Type 0 where
   tag-first : (getD t 6 0 ≡ 0x52 → ⊥) → Wrong t
   tag-last : (getD t 7 0 ≡ 0x47 → ⊥) → Wrong t
-  kind : known (getD t 5 0) ≡ false → Wrong t
-  strand : 1 < getD t 4 0 → Wrong t
-  feature : getD t 5 0 ≡ 0 → getD t 4 0 ≡ 1 → Wrong t
+  no-kind : known (getD t 5 0) ≡ false → Wrong t
+  strand-above : 1 < getD t 4 0 → Wrong t
+  feature-strand : getD t 5 0 ≡ 0 → getD t 4 0 ≡ 1 → Wrong t
 
 -- a trailer is there, and 6 is not given
 pub record Trailed (b : List ℕ) : Type 0 where
@@ -64,7 +64,7 @@ pub data SheetGiven (b : List ℕ) : ℕ → ℕ → Type 0 where
 
 -- "then 4 for a room lent for the original", "original: fewer than n" (01)
 pub data OriginalGiven (b : List ℕ) (size : ℕ) : ℕ → ℕ → Type 0 where
-  refused : {k i : ℕ} → SheetGiven b k i → (k ≡ 0 → ⊥) → OriginalGiven b size k i
+  as-read : {k i : ℕ} → SheetGiven b k i → (k ≡ 0 → ⊥) → OriginalGiven b size k i
   lacking : SheetGiven b 0 0 → size < wayBack b → OriginalGiven b size 4 0
   done : SheetGiven b 0 0 → wayBack b ≤ size → OriginalGiven b size 0 0
 

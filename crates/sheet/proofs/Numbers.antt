@@ -6,7 +6,6 @@ use mathlib.Core.Bool.{true, false, cond, true≢false}
 use mathlib.Core.List.{List, [], _∷_}
 use Prim.Native.Nat.{ℕ, _≤_, _<_, _-_}
 use native.Mathlib.Omega.{arith}
-use native.Mathlib.Nat.{eq-or-lt-of-le}
 use borrow.Author.Tests.{lt-ltb, le-ltb, eqb-true, eqb-false}
 use lib.Dec.{ltb, eqb}
 use lib.ListN.{length}
@@ -29,6 +28,11 @@ pub exactly-given : (Table : ℕ → ℕ → Type 0) (number place k i : ℕ) �
     → ((number ≡ k) × (place ≡ i)) ↔ Table k i
 exactly-given Table number place k i g one = ((λ e. subst (λ x. Table x i) (e .0) (subst (Table number) (e .1) g)), one)
 
+-- a refusal by its number and place
+pub refused-is : (f : Found) → (numberOf f ≡ 0 → ⊥) → f ≡ Refused (numberOf f) (placeOf f)
+refused-is (Sheet n start strand kind before) h = absurd (h refl)
+refused-is (Refused number place) h = refl
+
 -- ---- 7: the test, and some deposit that has these letters and marks
 
 pub marks-path : (a b : Marks) → a .letters ≡ b .letters → a .start ≡ b .start → a .strand ≡ b .strand → a .kind ≡ b .kind → a ≡ b
@@ -46,7 +50,7 @@ test-made b e =
           (passes-start (m .kind) (m .letters) (m .start) (m .strand) e) (passes-strand (m .kind) (m .letters) (m .start) (m .strand) e) refl;
     }
 
-made-test : (b : List ℕ) → Made b → isMade (marksIn b) ≡ true
+pub made-test : (b : List ℕ) → Made b → isMade (marksIn b) ≡ true
 made-test b m = subst (λ x. isMade x ≡ true) (m .is) (ring-passes (m .kind) (m .deposit) (m .permitted))
 
 -- ---- what is found
@@ -80,7 +84,7 @@ module _ (b : List ℕ) where
   told e = (ap numberOf (sym e), ap placeOf (sym e))
 
   -- what the table gives is found
-  given-found : {k i : ℕ} → SheetGiven b k i → (numberOf (foundOf b) ≡ k) × (placeOf (foundOf b) ≡ i)
+  pub given-found : {k i : ℕ} → SheetGiven b k i → (numberOf (foundOf b) ≡ k) × (placeOf (foundOf b) ≡ i)
   given-found (few h) = told (says-few b h)
   given-found (wrong h w) = told (says-wrong b h (wrong-test (trailer b) w))
   given-found (none t e) = told (says-none b (t .long) (right-test (trailer b) (t .right)) (wayBack b) refl e)
@@ -115,7 +119,7 @@ module _ (b : List ℕ) where
       (λ h. by-letters (record { trailed = t; some = s; within = m; reach = h }))))
       (λ s. let z : wayBack b ≡ 0 = omega arith in subst Gives (says-none b (t .long) w (wayBack b) refl z) (none t z))
 
-  found-given : Gives (foundOf b)
+  pub found-given : Gives (foundOf b)
   found-given =
       either (lt-or-ge (length b) 8) (λ h. subst Gives (says-few b h) (few h))
       (λ h. by-test (wrongMarks (trailer b)) (λ w. subst Gives (says-wrong b h w) (wrong h (test-wrong (trailer b) w)))

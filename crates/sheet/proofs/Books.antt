@@ -32,7 +32,7 @@ pub walk-step : (f : ℕ) (book : List ℕ) (ss : List (List ℕ)) (r : Found) �
 walk-step f book ss r h e = rw (ne-eqb (length book) 0 (omega arith), e)
 
 written-long : (s : List ℕ) → Written s → 8 ≤ length s
-written-long s r = omega (arith, ap length (r .is), size-written [] (r .kind) (r .deposit) (r .permitted))
+written-long s r = omega (arith, ap length (r .is), size-written (r .kind) (r .deposit) (r .permitted))
 
 -- the sheet nearest the end is found, and what stands before it is walked next
 walk-one : (f : ℕ) (pre s : List ℕ) (ss : List (List ℕ)) → Written s → walkBack (suc f) (pre ++ s) ss ≡ walkBack f pre (s ∷ ss)

@@ -7,6 +7,7 @@ pub mod Writing
 pub mod Books
 pub mod Walking
 pub mod Numbers
+pub mod Ruled
 pub mod Examples
 pub mod Determined
 pub mod Contracts

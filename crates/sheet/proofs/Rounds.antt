@@ -61,11 +61,11 @@ written-right : (n s kind : ℕ) (w : List ℕ) → known kind ≡ true → wron
 unfolding wrongMarks
 written-right n s kind w k = sym (no-strand kind (strand kind w)) ∙ lt-leb (strands kind) (strand kind w) (strand-below kind w k)
 
-module _ (pre : List ℕ) (kind : ℕ) (w : List ℕ) (p : Permitted kind w) where
-  pub size-written : length (sheetOf kind w) ≡ length w + 8
-  unfolding sheetOf
-  size-written = omega (arith, length-bytes [] (marksOf kind w), length-key kind w (p .some))
+pub size-written : (kind : ℕ) (w : List ℕ) → Permitted kind w → length (sheetOf kind w) ≡ length w + 8
+unfolding sheetOf
+size-written kind w p = omega (arith, length-bytes [] (marksOf kind w), length-key kind w (p .some))
 
+module _ (pre : List ℕ) (kind : ℕ) (w : List ℕ) (p : Permitted kind w) where
   back-written : wayBack (pre ++ sheetOf kind w) ≡ length w
   unfolding sheetOf
   back-written = way-back pre (marksOf kind w) ∙ length-key kind w (p .some)
@@ -80,7 +80,7 @@ module _ (pre : List ℕ) (kind : ℕ) (w : List ℕ) (p : Permitted kind w) whe
 
   written-reaches : Reaches (pre ++ sheetOf kind w)
   written-reaches =
-      let n : length (pre ++ sheetOf kind w) ≡ length pre + (length w + 8) = length-append pre (sheetOf kind w) ∙ ap (λ i. length pre + i) size-written in
+      let n : length (pre ++ sheetOf kind w) ≡ length pre + (length w + 8) = length-append pre (sheetOf kind w) ∙ ap (λ i. length pre + i) (size-written kind w p) in
       record {
         trailed = record { long = omega arith; right = test-right (trailer (pre ++ sheetOf kind w)) right-written };
         some = omega (arith, back-written, p .some);

@@ -68,6 +68,13 @@ pub data OriginalGiven (b : List ℕ) (size : ℕ) : ℕ → ℕ → Type 0 wher
   lacking : SheetGiven b 0 0 → size < wayBack b → OriginalGiven b size 4 0
   done : SheetGiven b 0 0 → wayBack b ≤ size → OriginalGiven b size 0 0
 
+-- what `letters` hands back, beside what `read` answers on the same bytes at the place p
+pub record HandsBack (b : List ℕ) (r : Entry) (p : ℕ × ℕ) (part : List ℕ) (at : ℕ × ℕ) : Type 0 where
+  -- "A declined call hands back an empty part at the front of the lent bytes" (01)
+  pub refused : (r .marked .number ≡ 0 → ⊥) → (part ≡ []) × (at ≡ p)
+  -- "The answer gives the key as a part of the lent bytes" (01)
+  pub done : r .marked .number ≡ 0 → (part ≡ take (r .marked .n) (drop (r .before) b)) × (at ≡ (p .0, p .1 + r .before))
+
 -- each of a list is a sheet that the writer makes
 abbrev pub AllWritten : List (List ℕ) → Type 0
 AllWritten [] = Unit {0}
@@ -96,4 +103,5 @@ pub record Accepted (b : List ℕ) (r : Entry) : Type 0 where
   pub size : length deposit ≡ r .marked .n
   pub bytes : (room : List ℕ) (m : Marked) (left : List ℕ) → WriteCall deposit (r .kind) room m left → length deposit + 8 ≤ length room
       → (m ≡ r .marked) × (take (length deposit + 8) left ≡ drop (r .before) b)
-  pub original : (room : List ℕ) (o : Checked) (left : List ℕ) → OriginalCall b room o left → length deposit ≤ length room → take (length deposit) left ≡ deposit
+  pub original : (room : List ℕ) (o : Checked) (left : List ℕ) → OriginalCall b room o left → length deposit ≤ length room
+      → (o ≡ record { number = 0; place = 0 }) × (take (length deposit) left ≡ deposit)

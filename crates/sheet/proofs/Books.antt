@@ -16,7 +16,7 @@ use Rattle.sheet.specs.declared.answer.Found.the-variants.{Sheet, Refuse
 use Rattle.sheet.specs.Sheet.{Written, sheetOf}
 use Rattle.sheet.specs.Trailer.{Bytes, foundOf, numberOf}
 use Rattle.sheet.specs.Book.{joined, Walk, through, stopped, stepAs, walkBack, walkOf, walkedAs, walkedOf}
-use Rattle.sheet.specs.Demands.{SheetGiven, AllWritten, BookGiven, sheets, stops}
+use Rattle.sheet.specs.Demands.{SheetGiven, AllWritten, BookGiven, sheets, stops, Holds}
 use Rattle.sheet.proofs.Numbers.{exactly-given, refused-is, given-found, found-given}
 use Rattle.sheet.proofs.Rounds.{size-written, found-written}
 use Rattle.sheet.proofs.Accepted.{Ends, taken-ends}
@@ -76,7 +76,7 @@ walk-joined ss a =
     (walk-joined-back (reverse ss) (length (joinedBack (reverse ss))) [] (written-back ss [] a tt) (omega arith) ∙ ap through (reverse-reverse ss))
 
 -- no other list of sheets makes the same book
-pub one-book : (ss ts : List (List ℕ)) → AllWritten ss → AllWritten ts → joined ss ≡ joined ts → ss ≡ ts
+one-book : (ss ts : List (List ℕ)) → AllWritten ss → AllWritten ts → joined ss ≡ joined ts → ss ≡ ts
 one-book ss ts a c e = let h : through ss ≡ through ts = sym (walk-joined ss a) ∙ ap walkOf e ∙ walk-joined ts c in cc
 
 -- ---- a refusal refuses the book
@@ -180,3 +180,8 @@ unfolding walkOf
 book-exactly book y k i =
     exactly-given (BookGiven book) (walkedOf book .number) (walkedOf book .place) k i
     (ended-given book (walk-ended (length book) book [] y (omega arith))) (given-walked book)
+
+-- 0 is given for sheets alone
+pub given-holds : (book : List ℕ) (n : ℕ) {k i : ℕ} → BookGiven book k i → k ≡ 0 → ((ss : List (List ℕ)) → AllWritten ss → joined ss ≡ book → n ≡ length ss) → Holds book n
+given-holds book n (sheets ss a e) z c = record { found = ss; written = a; are = e; counted = c ss a e; only = λ ts t f. one-book ts ss t a (f ∙ sym e) }
+given-holds book n (stops pre ss h g x a e) z c = absurd (x z)

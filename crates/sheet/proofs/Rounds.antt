@@ -5,22 +5,29 @@ use mathlib.Core.Bool.{true, false}
 use mathlib.Core.List.{List, [], _++_, append-assoc}
 use Prim.Native.Nat.{ℕ, _≤_, _<_, _+_, _-_, _*_}
 use native.Mathlib.Omega.{arith}
-use borrow.Author.Tests.{lt-leb}
+use borrow.Author.Tests.{lt-leb, le-ltb}
 use lib.ListN.{length, take, getD, length-append}
 use lib.Seq.{take-at, drop-at}
 use Rattle.words.specs.Kind.{known, isLetter, strands}
 use Rattle.words.specs.Strand.{strand, keyStart, key}
 use Rattle.words.proofs.Kind.{no-strand}
 use Rattle.words.proofs.Molecule.{strand-below}
-use Rattle.ring.specs.Judging.{Permitted, over}
+use Rattle.ring.specs.declared.judge.Verdict.the-variants.{Taken}
+use Rattle.ring.specs.declared.answer.Checked.{Checked}
+use Rattle.ring.specs.declared.answer.Marked.{Marked}
+use Rattle.ring.specs.Judging.{Permitted, over, after}
+use Rattle.ring.specs.Answers.{markedAs}
+use Rattle.ring.proofs.Exactly.{permitted-taken}
 use Rattle.ring.proofs.Compared.{length-key}
 use Rattle.ring.proofs.Deposit.{deposit-back, permitted-key}
 use Rattle.sheet.specs.declared.answer.Found.the-variants.{Sheet}
-use Rattle.sheet.specs.Sheet.{Marks, low, high, trailerOf, bytesOf, marksOf, sheetOf, depositOf}
+use Rattle.sheet.specs.declared.answer.Entry.{Entry}
+use Rattle.sheet.specs.Sheet.{Marks, low, high, trailerOf, bytesOf, marksOf, sheetOf, depositOf, writeVerdict}
 use Rattle.sheet.specs.Trailer.{trailer, two, wayBack, marksIn, wrongMarks, sheetIn, foundOf, numberOf}
 use Rattle.sheet.specs.Trailer as at-end
 use Rattle.sheet.specs.Reader.{entryAs, entryOf, partAs, partOf, restoredOf, originalOf, roomAs, originalRoom}
-use Rattle.sheet.specs.Demands.{Reaches, Lettered, Made}
+use Rattle.sheet.specs.Calls.{WriteCall, LettersCall, OriginalCall}
+use Rattle.sheet.specs.Demands.{Reaches, Lettered, Made, RoundTrip, Accepted}
 use Rattle.sheet.proofs.Replies.{test-right}
 use Rattle.sheet.proofs.Numbers.{marks-path, sheet-found, restored-done}
 
@@ -55,7 +62,11 @@ module _ (pre : List ℕ) (m : Marks) where
       marks-path (marksIn (pre ++ bytesOf m)) m letters-bytes (ap (λ t. two t 2) trailer-bytes ∙ two-back (m .start))
       (ap (λ t. getD t 4 0) trailer-bytes) (ap (λ t. getD t 5 0) trailer-bytes)
 
--- ---- the round trip
+-- ---- what the writer makes, read
+
+-- the marks that the writer answers for a deposit
+abbrev marks : ℕ → List ℕ → Marked
+marks kind w = record { number = 0; place = 0; n = length w; start = keyStart kind w; strand = strand kind w }
 
 written-right : (n s kind : ℕ) (w : List ℕ) → known kind ≡ true → wrongMarks (trailerOf n s (strand kind w) kind) ≡ false
 unfolding wrongMarks
@@ -110,12 +121,11 @@ module _ (pre : List ℕ) (kind : ℕ) (w : List ℕ) (p : Permitted kind w) whe
   found-written = sym (sheet-found (pre ++ sheetOf kind w) written-lettered written-made) ∙ sheet-in
 
   -- it is read back to its marks and kind
-  pub round-trip : entryOf (pre ++ sheetOf kind w)
-      ≡ record { marked = record { number = 0; place = 0; n = length w; start = keyStart kind w; strand = strand kind w }; kind = kind; before = length pre }
-  round-trip = ap entryAs found-written
+  pub round-entry : entryOf (pre ++ sheetOf kind w) ≡ record { marked = marks kind w; kind = kind; before = length pre }
+  round-entry = ap entryAs found-written
 
   -- to its key
-  pub round-key : partOf (pre ++ sheetOf kind w) ≡ key kind w
+  round-key : partOf (pre ++ sheetOf kind w) ≡ key kind w
   unfolding sheetOf
   round-key =
       ap (partAs (pre ++ sheetOf kind w)) found-written
@@ -129,8 +139,49 @@ module _ (pre : List ℕ) (kind : ℕ) (w : List ℕ) (p : Permitted kind w) whe
     restored-written : restoredOf (pre ++ sheetOf kind w) (length room) ≡ Sheet (length w) (keyStart kind w) (strand kind w) kind (length pre)
     restored-written = restored-done (pre ++ sheetOf kind w) (length room) (ap numberOf found-written) (omega (arith, back-written)) ∙ sheet-in
 
-    pub round-original : originalOf (pre ++ sheetOf kind w) (length room) ≡ record { number = 0; place = 0 }
+    round-original : originalOf (pre ++ sheetOf kind w) (length room) ≡ record { number = 0; place = 0 }
     round-original = rw restored-written
 
-    pub round-room : originalRoom (pre ++ sheetOf kind w) room ≡ over w room
+    round-room : originalRoom (pre ++ sheetOf kind w) room ≡ over w room
     round-room = ap₂ (λ r d. roomAs r d room) restored-written round-deposit
+
+-- ---- there and back, of the calls
+
+module _ (kind : ℕ) (w : List ℕ) (p : Permitted kind w) where
+  -- `write` leaves the sheet
+  pub write-leaves : (room : List ℕ) (m : Marked) (left : List ℕ) → WriteCall w kind room m left → length w + 8 ≤ length room
+      → (m ≡ marks kind w) × (take (length w + 8) left ≡ sheetOf kind w)
+  write-leaves room m left c h =
+      let t : writeVerdict kind w (length room) ≡ Taken = permitted-taken kind w _ p (le-ltb (length room) (length w + 8) h) in (
+        c .answer ∙ ap (λ v. markedAs v kind w) t,
+        ap (take (length w + 8)) (c .leaves ∙ ap (λ v. after v (sheetOf kind w) room) t) ∙ take-at (sheetOf kind w) _ (length w + 8) (size-written kind w p),
+      )
+
+  module _ (pre : List ℕ) where
+    -- `original` leaves the deposit
+    original-leaves : (room : List ℕ) (o : Checked) (left : List ℕ) → OriginalCall (pre ++ sheetOf kind w) room o left → length w ≤ length room
+        → (o ≡ record { number = 0; place = 0 }) × (take (length w) left ≡ w)
+    original-leaves room o left c h =
+        (c .answer ∙ round-original pre kind w p room h, ap (take (length w)) (c .leaves ∙ round-room pre kind w p room h) ∙ take-at w _ (length w) refl)
+
+    pub there-and-back : (m : Marked) (r : Entry) (q at : ℕ × ℕ) (part room : List ℕ) (o : Checked) (left : List ℕ) → m ≡ marks kind w
+        → r ≡ entryOf (pre ++ sheetOf kind w) → LettersCall (pre ++ sheetOf kind w) q part at → OriginalCall (pre ++ sheetOf kind w) room o left
+        → length w ≤ length room → RoundTrip kind w pre m r part o left
+    there-and-back m r q at part room o left f e l c h =
+        let x = original-leaves room o left c h in
+        record {
+          entry = e ∙ round-entry pre kind w p ∙ ap (λ n. record { marked = n; kind = kind; before = length pre }) (sym f);
+          letters = l .is ∙ round-key pre kind w p;
+          answer = x .0;
+          original = x .1;
+        }
+
+    -- the sheet is accepted for its deposit
+    pub accepted-for : Accepted (pre ++ sheetOf kind w) (record { marked = marks kind w; kind = kind; before = length pre })
+    accepted-for = record {
+      deposit = w;
+      permitted = p;
+      size = refl;
+      bytes = λ room m left c h. let x = write-leaves room m left c h in (x .0, x .1 ∙ sym (drop-at pre (sheetOf kind w) (length pre) refl));
+      original = original-leaves;
+    }

@@ -82,9 +82,9 @@ deposit-size b r m =
     let d : depositOf (marksIn b) ≡ m .deposit = ap depositOf (sym (m .is)) ∙ deposit-back (m .kind) (m .deposit) (m .permitted) in
     omega (arith, letters-size b r, ap (λ (x : Marks). length (x .letters)) (m .is), length-key (m .kind) (m .deposit) (m .permitted .some), ap length d)
 
-pub original-ruled : (b room : List ℕ) → AsRuled (OriginalGiven b (length room)) (originalOf b (length room) .number) (originalOf b (length room) .place) []
+pub restored-ruled : (b room : List ℕ) → AsRuled (OriginalGiven b (length room)) (originalOf b (length room) .number) (originalOf b (length room) .place) []
     (lent room (originalRoom b room) (wayBack b) ∷ [])
-original-ruled b room =
+restored-ruled b room =
     room-as (OriginalGiven b (length room)) (restoredOf b (length room)) (original-exactly b (length room)) (depositOf (marksIn b)) room (wayBack b)
     (λ z. let s = restored-sheet b (length room) z in (deposit-size b (s .0 .0 .reaches) (s .0 .1), s .1))
 

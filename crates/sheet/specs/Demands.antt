@@ -50,6 +50,7 @@ pub record Made (b : List ℕ) : Type 0 where
   pub permitted : Permitted kind deposit
   pub is : marksOf kind deposit ≡ marksIn b
 
+-- each number when its condition holds and none before it in the order, with its place
 pub data SheetGiven (b : List ℕ) : ℕ → ℕ → Type 0 where
   few : length b < 8 → SheetGiven b 5 0
   wrong : 8 ≤ length b → Wrong (trailer b) → SheetGiven b 6 0
@@ -86,6 +87,14 @@ pub data BookGiven (b : List ℕ) : ℕ → ℕ → Type 0 where
   sheets : (ss : List (List ℕ)) → AllWritten ss → joined ss ≡ b → BookGiven b 0 0
   stops : {k i : ℕ} (front : List ℕ) (ss : List (List ℕ)) → 0 < length front → SheetGiven front k i → (k ≡ 0 → ⊥)
       → AllWritten ss → front ++ joined ss ≡ b → BookGiven b k i
+
+-- a book holds n sheets, just those and no others: "sheets joined one behind another are walked back to just those sheets" (01)
+pub record Holds (b : List ℕ) (n : ℕ) : Type 0 where
+  pub found : List (List ℕ)
+  pub written : AllWritten found
+  pub are : joined found ≡ b
+  pub counted : n ≡ length found
+  pub only : (ss : List (List ℕ)) → AllWritten ss → joined ss ≡ b → ss ≡ found
 
 -- ---- demand 2: there and back
 

@@ -95,7 +95,7 @@ module _ (pre : List ℕ) (h : 0 < length pre) (k p : ℕ) (e : foundOf pre ≡ 
       ∙ stop-behind rs f (s ∷ ss) (w .1) (omega (arith, written-long s (w .0), length-append (pre ++ joinedBack rs) s))
 
   -- "a refusal there ends the walk and refuses the book with that number" (01): whatever sheets stand behind it
-  pub walk-refused : (ss : List (List ℕ)) → AllWritten ss → walkOf (pre ++ joined ss) ≡ stopped k p
+  walk-refused : (ss : List (List ℕ)) → AllWritten ss → walkOf (pre ++ joined ss) ≡ stopped k p
   unfolding walkOf
   walk-refused ss a =
       subst (λ b. walkBack (length (pre ++ b)) (pre ++ b) [] ≡ stopped k p) (joined-back ss [])

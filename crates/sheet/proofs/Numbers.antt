@@ -130,7 +130,7 @@ module _ (b : List ℕ) where
   sheet-exactly k i = exactly-given (SheetGiven b) (numberOf (foundOf b)) (placeOf (foundOf b)) k i found-given given-found
 
   -- 0 is given for a sheet alone
-  pub given-sheet : {k i : ℕ} → SheetGiven b k i → k ≡ 0 → Lettered b × Made b
+  given-sheet : {k i : ℕ} → SheetGiven b k i → k ≡ 0 → Lettered b × Made b
   given-sheet (few h) e = absurd (omega arith)
   given-sheet (wrong h w) e = absurd (omega arith)
   given-sheet (none t z) e = absurd (omega arith)

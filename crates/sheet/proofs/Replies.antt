@@ -78,7 +78,7 @@ module _ (t : List ℕ) where
     pub right-last : getD t 7 0 ≡ 0x47
     right-last = by-test (eqb (getD t 7 0) 0x47) (eqb-true _ _) (λ e. absurd (n (tag-last (eqb-false _ _ e))))
 
-    pub right-kind : known (getD t 5 0) ≡ true
+    right-kind : known (getD t 5 0) ≡ true
     right-kind = by-test (known (getD t 5 0)) (λ e. e) (λ e. absurd (n (no-kind e)))
 
   -- behind a right tag: the strand is none of the n that the kind has

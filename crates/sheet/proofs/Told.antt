@@ -26,7 +26,7 @@ module _ (b : List ℕ) (n s σ k bf : ℕ) (e : Sheet n s σ k bf ≡ foundOf b
   told-in : Sheet n s σ k bf ≡ sheetIn b
   told-in = let t = taken-sheet b told-done in e ∙ sym (sheet-found b (t .0) (t .1))
 
-  pub told-n : n ≡ wayBack b
+  told-n : n ≡ wayBack b
   told-n = let h = told-in in cc
 
   pub told-start : s ≡ marksIn b .start
@@ -35,7 +35,7 @@ module _ (b : List ℕ) (n s σ k bf : ℕ) (e : Sheet n s σ k bf ≡ foundOf b
   pub told-strand : σ ≡ marksIn b .strand
   told-strand = let h = told-in in cc
 
-  pub told-before : bf ≡ before b
+  told-before : bf ≡ before b
   told-before = let h = told-in in cc
 
   pub told-long : 8 ≤ length b
@@ -66,7 +66,7 @@ module _ (b : List ℕ) (n s σ k bf : ℕ) (e : Sheet n s σ k bf ≡ foundOf b
 -- ---- a refusal answered
 
 module _ (b : List ℕ) (k p : ℕ) (e : Refused k p ≡ foundOf b) where
-  pub told-refused : numberOf (foundOf b) ≡ 0 → ⊥
+  told-refused : numberOf (foundOf b) ≡ 0 → ⊥
   told-refused z =
       let t = taken-sheet b z in
       let h : Refused k p ≡ sheetIn b = e ∙ sym (sheet-found b (t .0) (t .1)) in

@@ -1,5 +1,5 @@
--- What 01 demands of the calls on sheets and books: each theorem is about the answer and the lent slices of a public call.
--- `specs/Calls` has the calls, and `Contracts` shows that whatever meets a contract is one; `specs/Demands` has the words.
+-- The demands on the calls on sheets and books: read this after `specs/`. Every theorem is about what a public call answers and what it
+-- leaves in a lent room; `Contracts` shows that whatever meets a call's contract is such a call.
 -- Assumes nothing.
 use mathlib.Core.Path.{_≡_, refl, sym, ap, _∙_, subst}
 use mathlib.Core.List.{List, [], _∷_, _++_}
@@ -22,7 +22,8 @@ use Rattle.sheet.proofs.Rounds.{write-leaves, round-entry, there-and-ba
 use Rattle.sheet.proofs.Accepted.{taken-ends}
 use Rattle.sheet.proofs.Books as books
 
--- ---- demand 1: each number and place exactly when 01's table gives them; a refused call says and changes nothing else
+-- ==== 1. Every call takes every input; it declines by 01's number, in 01's order, exactly on the stated condition, and a call that
+-- declines has changed nothing
 
 pub write-ruled : {w : List ℕ} {kind : ℕ} {room left : List ℕ} {r : Marked} → WriteCall w kind room r left
     → AsRuled (Given kind w (length room < length w + 8)) (r .number) (r .place) (r .n ∷ r .start ∷ r .strand ∷ []) (lent room left (r .n + 8) ∷ [])
@@ -58,7 +59,7 @@ walk-holds {b} {r} c z = books.given-holds b (r .sheets) (walk-ruled c .exactly 
 pub walk-nothing : {r : Walked} → WalkCall [] r → (r .number ≡ 0) × (r .sheets ≡ 0)
 walk-nothing c = walk-counts c [] tt refl
 
--- ---- demand 2: there and back
+-- ==== 2. What is written is read back, and what is read is what is written
 
 -- whatever stands before it, what `write` leaves is read to its marks, kind, key and deposit
 pub round-trip : {kind : ℕ} {w pre b room left room2 left2 part : List ℕ} {m : Marked} {r : Entry} {o : Checked} {p at : ℕ × ℕ}

@@ -1,4 +1,4 @@
-// The report that `ringline` prints. It declines nothing, so its number is always 0.
+// The report that `ringline` prints. The call answers a length and no number, so the number is always 0.
 ghost use mathlib.Core.Path.{_≡_};
 ghost use lib.ListN.{length};
 ghost use Rattle.report.specs.Report.{reportLength, reportRoom};

@@ -16,6 +16,8 @@ use Rattle.words.specs.Strand.{opposite, key}
 use Rattle.words.specs.Factor.{factorTable}
 use Rattle.words.specs.Prefix.{IsLeastSuffix, leastSuffix, suffixTable, startTable}
 use Rattle.words.specs.Repeat.{IsRepeat}
+use Rattle.words.specs.Duel.{duels, pairs}
+use Rattle.words.proofs.Search.{by-test}
 use Rattle.words.proofs.Ring.{start-is}
 use Rattle.words.proofs.Repeat.{repeat-is, repeat-one}
 use Rattle.words.proofs.Runs.{table-few}
@@ -26,7 +28,7 @@ use Rattle.ring.specs.declared.answer.Fought.{Fought}
 use Rattle.ring.specs.declared.answer.Repeated.{Repeated}
 use Rattle.ring.specs.declared.answer.Marked.{Marked}
 use Rattle.ring.specs.declared.answer.Compared.{Compared}
-use Rattle.ring.specs.Judging.{Permitted, Given, verdict, numberOf}
+use Rattle.ring.specs.Judging.{Permitted, Given, verdict, taken, numberOf}
 use Rattle.ring.specs.Answers.{fewer, keyVerdict}
 use Rattle.ring.specs.Calls.{CheckCall, FactorsCall, SuffixesCall, StartsCall, DuelCall, RepeatCall, MarkCall, WriteKeyCall, KeyCall, CompareCall}
 use Rattle.ring.specs.Demands.{lent, AsRuled, LacksRoom, GivenOf, Divided, KeyOf, OneStart, OneMolecule}
@@ -143,7 +145,7 @@ module _ {w : List ℕ} {kind : ℕ} {first second one two : List ℕ} {m : Mark
 
 -- ==== 3. For every kind and every permitted ring with room enough: the starts from the factors, from the duels and from the last entry
 -- of the start table are one number, the start and no other; the pairs are the duels', at most three a letter. And of two permitted
--- rings: yes, equal keys, and one being a turn of the other or of its opposite strand are the same
+-- rings: yes, equal keys, and one being a turn of the other, or of its opposite strand for a kind that has one, are the same
 
 module _ {kind : ℕ} {u v : List ℕ} (p : Permitted kind u) (q : Permitted kind v) where
   pub routes-agree : {t s t' s' : List ℕ} {f : Factored} {d : Fought} {x : Checked} {a b a' b' : List ℕ} {i j i' j' at at' : ℕ × ℕ} {k l : List ℕ} {c : Compared}
@@ -155,3 +157,8 @@ module _ {kind : ℕ} {u v : List ℕ} (p : Permitted kind u) (q : Permitted kin
     rw (ku .is, kv .is, co .answer, part-done kind u a b (roomy kind u a b p hu), part-done kind v a' b' (roomy kind v a' b' q hv))
         (record { keys = yes-keys kind u v p q; molecule = yes-one kind u v p q }),
   )
+
+-- "A ring of one letter has start 0 and 0 pairs" (01)
+pub duel-one-letter : {a kind : ℕ} {d : Fought} → DuelCall (a ∷ []) kind d → (d .start ≡ 0) × (d .pairs ≡ 0)
+unfolding duels pairs
+duel-one-letter {a} {kind} c = by-test (taken (verdict kind (a ∷ []) false)) (λ t. rw (c .answer, t) (refl, refl)) (λ t. rw (c .answer, t) (refl, refl))

@@ -10,7 +10,7 @@ use lib.Seq.{take-at}
 use Rattle.ring.specs.declared.judge.Verdict.{Verdict}
 use Rattle.words.specs.Factor.{factors, factorTable}
 use Rattle.words.proofs.Factor.{factors-are, factors-one}
-use Rattle.words.proofs.Runs.{length-factorTable}
+use Rattle.words.proofs.Runs.{length-factorTable, table-ascends}
 use Rattle.ring.specs.Judging.{numberOf, verdict, after}
 use Rattle.ring.specs.Answers.{fewer, factoredOf, factoredTable}
 use Rattle.ring.specs.Demands.{Divided}
@@ -45,4 +45,5 @@ divided kind w table e =
       only = factors-one w;
       counted = n ∙ length-factorTable w;
       entries = front-is v (factorTable w) table e (factoredOf kind w (length table) .count) (sym n);
+      ascending = λ i h. rw (entry-at v (factorTable w) table e i (omega (arith, h, n)), entry-at v (factorTable w) table e (suc i) (omega (arith, h, n))) (table-ascends w i (omega (arith, h, n)));
     }

@@ -42,11 +42,11 @@ module _ (kind : ℕ) (w : List ℕ) (p : Permitted kind w) where
   one-start size h t l =
       let f : factoredOf kind w size .start ≡ start w = route-factors size h in
       record {
-        duels = route-duels ∙ sym f;
-        last = route-table t l ∙ sym f;
+        by-duels = route-duels ∙ sym f;
+        by-table = route-table t l ∙ sym f;
         start = rw f (start-is w (p .some));
         only = λ i s. start-one w i s ∙ sym f;
-        read = route-pairs;
+        fought = duels-end w (p .some) ∙ rw (f, route-pairs);
         few = rw route-pairs (pairs-three w);
       }
 

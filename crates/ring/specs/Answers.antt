@@ -143,7 +143,7 @@ comparedOf kind u v = comparedAs (verdict kind u false) (verdict kind v false) (
 
 -- ---- a reading written, and letters judged as a key
 
--- the reading at a start of a strand, the ring as it stands from n on; 4 where the room is short is the only refusal
+-- the reading at a start of a strand, the strand as it stands from n on; 4 where the room is short is the only refusal
 abbrev pub wroteOf : List ℕ → ℕ → Checked
 wroteOf w size = record { number = cond (fewer size w) 4 0; place = 0 }
 

@@ -4,14 +4,14 @@ use mathlib.Core.Path.{_≡_}
 use mathlib.Core.Logic.{_↔_, _⊎_}
 use mathlib.Core.Bool.{true}
 use mathlib.Core.List.{List, [], _∷_}
-use Prim.Native.Nat.{ℕ, _≤_, _<_, _-_, _*_}
+use Prim.Native.Nat.{ℕ, suc, _≤_, _<_, _-_, _*_}
 use lib.ListN.{length, take, drop, getD}
 use Rattle.words.specs.Order.{_≺_, _≼_}
 use Rattle.words.specs.Kind.{stranded}
 use Rattle.words.specs.Ring.{IsStart, reading, lowest}
 use Rattle.words.specs.Strand.{opposite, onStrand, OneRing}
 use Rattle.words.specs.Factor.{IsFactors, firsts}
-use Rattle.words.specs.Duel.{pairs}
+use Rattle.words.specs.Duel.{duels, ended}
 use Rattle.ring.specs.declared.answer.Factored.{Factored}
 use Rattle.ring.specs.declared.answer.Fought.{Fought}
 use Rattle.ring.specs.declared.answer.Compared.{Compared}
@@ -72,6 +72,7 @@ pub record Divided (w : List ℕ) (count : ℕ) (table : List ℕ) : Type 0 wher
   pub only : (fs : List (List ℕ)) → IsFactors w fs → fs ≡ words
   pub counted : count ≡ length words
   pub entries : take count table ≡ firsts 0 words
+  pub ascending : (i : ℕ) → suc i < count → getD table i 0 < getD table (suc i) 0
 
 -- k is the key of a ring, with its start and strand
 pub record KeyOf (kind : ℕ) (w : List ℕ) (at s : ℕ) (k : List ℕ) : Type 0 where
@@ -90,14 +91,15 @@ pub record KeyOf (kind : ℕ) (w : List ℕ) (at s : ℕ) (k : List ℕ) : Type 
 -- the starts from the factors, from the duels and from the last entry of the start table are one number, the start and no other; the
 -- pairs are the duels', at most three a letter
 pub record OneStart (w : List ℕ) (f : Factored) (d : Fought) (table : List ℕ) : Type 0 where
-  pub duels : d .start ≡ f .start
-  pub last : getD table (length w - 1) 0 ≡ f .start
+  pub by-duels : d .start ≡ f .start
+  pub by-table : getD table (length w - 1) 0 ≡ f .start
   pub start : IsStart w (f .start)
   pub only : (i : ℕ) → IsStart w i → i ≡ f .start
-  pub read : d .pairs ≡ pairs w
+  -- the sequence of duels has ended, with this start and these pairs
+  pub fought : duels w ≡ ended (f .start) (d .pairs)
   pub few : d .pairs ≤ 3 * length w
 
--- yes, equal keys and being one molecule are the same
+-- yes, equal keys and being one molecule are the same: a turn of the other or, for a kind with an opposite strand, of that strand
 pub record OneMolecule (kind : ℕ) (u v : List ℕ) (c : Compared) (k l : List ℕ) : Type 0 where
   pub keys : (c .same ≡ true) ↔ (k ≡ l)
   pub molecule : (c .same ≡ true) ↔ OneRing kind u v

@@ -29,7 +29,7 @@ pub struct Repeated {
     pub repeat: usize,
 }
 
-// The key's marks: its letters, its start and its strand.
+// The key's marks: how many letters it has, its start and its strand.
 pub struct Marked {
     pub number: u8,
     pub place: usize,

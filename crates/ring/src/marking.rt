@@ -83,7 +83,7 @@ pub fn refused(v: Verdict) -> Marked
     }
 }
 
-// The key's letters, start and strand.
+// How many letters the key has, its start and its strand.
 pub fn mark(ring: &[u8], kind: u8) -> Marked
     ensures { λ r. ⌜ r ≡ markedOf kind (now (ring .entry)) ⌝ }
 {

@@ -1,5 +1,5 @@
 -- Each public call on sheets and books as its contract has it: what it was lent, what it answered, and what it left.
--- `proofs/Contracts` shows of the contracts themselves that whatever meets one is such a call. What is lent as bytes are bytes.
+-- `proofs/Contracts` shows of the contracts themselves that whatever meets one is such a call. What `read` and `walk` are lent are bytes.
 -- Assumes nothing.
 use mathlib.Core.Path.{_≡_}
 use mathlib.Core.List.{List}

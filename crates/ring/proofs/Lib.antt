@@ -3,7 +3,6 @@ pub mod Judging
 pub mod Facings
 pub mod Laid
 pub mod Replies
-pub mod Spacing
 pub mod Routing
 pub mod Exactly
 pub mod Numbers

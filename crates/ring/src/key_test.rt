@@ -5,7 +5,7 @@ ghost use lib.ListN.{length};
 ghost use Rattle.ring.specs.Strands.{leftTo};
 ghost use Rattle.ring.specs.Answers.{isKey};
 ghost use Rattle.ring.specs.Judging.{most};
-use super::factor::first_factor;
+use super::factor::first_run;
 use super::judge::MOST;
 use super::judge::Verdict;
 use super::judge::has_strands;
@@ -38,7 +38,7 @@ pub fn is_key(letters: &[u8], kind: u8, start: usize, strand: u8) -> bool
     let Verdict::Taken = v else {
         return false;
     };
-    let f = first_factor(letters);
+    let f = first_run(letters);
     if f.end != letters.len() {
         return false;
     }

@@ -11,7 +11,7 @@ ghost use Rattle.ring.specs.Answers.{filledOf, startsTable};
 ghost use Rattle.words.specs.Mark.{Flagged, unmark, Judged, Outside, Fresh, Marking, Marked, Done};
 ghost use Rattle.ring.specs.Judging.{most};
 use super::answer::Checked;
-use super::factor::first_factor;
+use super::factor::first_run;
 use super::judge::Verdict;
 use super::judge::judge;
 use super::judge::said;
@@ -31,7 +31,7 @@ fn flag_heads(w: &[u8], t: &mut [u16])
     let mut m: usize = 0;
     while m < w.len() {
         t[m] = t[m] + HEAD;
-        let run = first_factor(&w[m..]);
+        let run = first_run(&w[m..]);
         m += run.end;
     }
 }

@@ -1,23 +1,22 @@
--- `rings::first_factor` meets its contract. The invariant is the scan of `Rattle.words.proofs.Scan`.
+-- `ring::factor::first_factor` meets its contract. The invariant is the scan of `Rattle.words.proofs.Scan`.
 -- Assumes nothing.
 use Prim.Native.Nat.{_-_}
 use native.Mathlib.Omega.{arith}
-use native.Mathlib.Nat.{mod-le}
 use borrow.Author.Needs.{needs}
 use lib.ListN.{length}
 use Rattle.words.proofs.Search.{either}
-use Rattle.words.proofs.Scan.{Scan, scan-first, scan-greater, scan-equal, scan-end}
+use Rattle.words.proofs.Scan.{Scan, scan-greater, scan-equal}
 use Rattle.ring.proofs.factor.first_factor.Statement.{statement}
 use Rattle.ring.proofs.factor.first_factor.Tie as tie
 
 abbrev Inv-loop : tie.InvT-loop
-Inv-loop s j₀ k₀ j k = Scan s j k
+Inv-loop s read back j₀ k₀ j k = Scan s j k
 
 abbrev μ-loop : tie.MeasureT-loop
-μ-loop s j₀ k₀ j k = length s - j
+μ-loop s read back j₀ k₀ j k = length s - j
 
 loop-holds : tie.Need-loop-holds Inv-loop μ-loop
-loop-holds c = scan-first _ (c .pre)
+loop-holds c = c .pre
 
 shared-slice-read-if1 : tie.Need-shared-slice-read-if1 Inv-loop μ-loop
 shared-slice-read-if1 c = search needs
@@ -45,17 +44,15 @@ loop-again c =
     let i = c .before .before .before .before .before .before .before .loop .inv in
     either (c .if2 .came) (λ w. rw (w .1) (scan-greater _ _ _ i (search needs) (w .0 .taken))) (λ w. rw (w .1) (scan-equal _ _ _ i (search needs) (omega arith)))
 
-sub-p : tie.Need-sub-p Inv-loop μ-loop
-sub-p c = search needs
-
-rem-t13 : tie.Need-rem-t13 Inv-loop μ-loop
-rem-t13 c = search needs
-
 sub-t14 : tie.Need-sub-t14 Inv-loop μ-loop
-sub-t14 c = omega (arith, mod-le (c .before .loop .j) (c .before .loop .j - c .before .loop .k))
+sub-t14 c = search needs
 
 returns : tie.Need-returns Inv-loop μ-loop
-returns c = scan-end _ _ _ (c .before .loop .inv) (λ l. either (c .loop-test .came) (λ w. absurd (omega arith)) (λ w. w .3 .taken))
+returns c = record {
+  size = omega (arith, c .before .loop .inv .order);
+  scan = c .before .loop .inv;
+  stops = λ l. either (c .loop-test .came) (λ w. absurd (omega arith)) (λ w. w .3 .taken);
+}
 
 pub first-factor-spec : {M : Type 1} → statement M
 first-factor-spec =
@@ -72,7 +69,5 @@ first-factor-spec =
     add-j
     loop-less
     loop-again
-    sub-p
-    rem-t13
     sub-t14
     returns)

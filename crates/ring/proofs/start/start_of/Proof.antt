@@ -13,7 +13,7 @@ use Rattle.ring.proofs.start.start_of.Statement.{statement}
 use Rattle.ring.proofs.start.start_of.Tie as tie
 use Rattle.ring.proofs.start.start_of.Reads as reads
 use Rattle.ring.proofs.start.start_of.Lts as lts
-use Rattle.ring.proofs.factor.first_factor.Reads as first-factor-reads
+use Rattle.ring.proofs.factor.first_run.Reads as first-run-reads
 use Rattle.ring.proofs.reading.lower_of.Reads as lower-of-reads
 
 abbrev Inv-loop : tie.InvT-loop
@@ -23,29 +23,29 @@ abbrev μ-loop : tie.MeasureT-loop
 μ-loop s n best₀ m₀ best m = n - m
 
 abbrev Searched : Type 0
-Searched = lts.After-first-factor (first-factor-reads.Asked, first-factor-reads.Learnt, lower-of-reads.Asked, lower-of-reads.Learnt) reads.Pre reads.Post Inv-loop μ-loop
+Searched = lts.After-first-run (first-run-reads.Asked, first-run-reads.Learnt, lower-of-reads.Asked, lower-of-reads.Learnt) reads.Pre reads.Post Inv-loop μ-loop
 
 -- the first run of the letters from m on
-run-at : (c : Searched) → FirstRun (drop (c .before .before .before .loop .m) (c .before .before .before .before .before .args .s .now)) (c .first-factor .result .size) (c .first-factor .result .end)
-run-at c = let s = c .before .before .before .before .before .args .s .now in let m = c .before .before .before .loop .m in rw (take-all (length s - m) (drop m s) (rw length-drop (omega arith))) at (c .first-factor .ensures)
+run-at : (c : Searched) → FirstRun (drop (c .before .before .before .loop .m) (c .before .before .before .before .before .args .s .now)) (c .first-run .result .size) (c .first-run .result .end)
+run-at c = let s = c .before .before .before .before .before .args .s .now in let m = c .before .before .before .loop .m in rw (take-all (length s - m) (drop m s) (rw length-drop (omega arith))) at (c .first-run .ensures)
 
-run-fits : (c : Searched) → c .before .before .before .loop .m + c .first-factor .result .end ≤ length (c .before .before .before .before .before .args .s .now)
+run-fits : (c : Searched) → c .before .before .before .loop .m + c .first-run .result .end ≤ length (c .before .before .before .before .before .args .s .now)
 run-fits c = omega (arith, run-within _ _ _ (run-at c), length-drop (c .before .before .before .loop .m) (c .before .before .before .before .before .args .s .now), c .before .before .loop-test .taken)
 
 loop-holds : tie.Need-loop-holds Inv-loop μ-loop
 loop-holds c = (search needs, search needs, best-none _)
 
-sub-first-factor : tie.Need-sub-first-factor Inv-loop μ-loop
-sub-first-factor c = search needs
+sub-first-run : tie.Need-sub-first-run Inv-loop μ-loop
+sub-first-run c = search needs
 
-part-first-factor-start : tie.Need-part-first-factor-start Inv-loop μ-loop
-part-first-factor-start c = search needs
+part-first-run-start : tie.Need-part-first-run-start Inv-loop μ-loop
+part-first-run-start c = search needs
 
-part-first-factor-end : tie.Need-part-first-factor-end Inv-loop μ-loop
-part-first-factor-end c = search needs
+part-first-run-end : tie.Need-part-first-run-end Inv-loop μ-loop
+part-first-run-end c = search needs
 
-first-factor-requires : tie.Need-first-factor-requires Inv-loop μ-loop
-first-factor-requires c κs = search needs
+first-run-requires : tie.Need-first-run-requires Inv-loop μ-loop
+first-run-requires c κs = search needs
 
 lower-of-requires : tie.Need-lower-of-requires Inv-loop μ-loop
 lower-of-requires c κs = (search needs, best-below _ _ _ (c .before .before .before .before .before .pre) (c .before .before .before .loop .inv .2))
@@ -75,10 +75,10 @@ start-of-spec =
     Inv-loop
     μ-loop
     loop-holds
-    sub-first-factor
-    part-first-factor-start
-    part-first-factor-end
-    first-factor-requires
+    sub-first-run
+    part-first-run-start
+    part-first-run-end
+    first-run-requires
     lower-of-requires
     add-m
     loop-less

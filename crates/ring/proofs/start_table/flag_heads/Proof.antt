@@ -40,28 +40,28 @@ mul-t-2 c = search needs
 slice-write-t : tie.Need-slice-write-t Inv-loop μ-loop
 slice-write-t c = search needs
 
-sub-first-factor : tie.Need-sub-first-factor Inv-loop μ-loop
-sub-first-factor c = search needs
+sub-first-run : tie.Need-sub-first-run Inv-loop μ-loop
+sub-first-run c = search needs
 
-part-first-factor-start : tie.Need-part-first-factor-start Inv-loop μ-loop
-part-first-factor-start c = search needs
+part-first-run-start : tie.Need-part-first-run-start Inv-loop μ-loop
+part-first-run-start c = search needs
 
-part-first-factor-end : tie.Need-part-first-factor-end Inv-loop μ-loop
-part-first-factor-end c = search needs
+part-first-run-end : tie.Need-part-first-run-end Inv-loop μ-loop
+part-first-run-end c = search needs
 
-first-factor-requires : tie.Need-first-factor-requires Inv-loop μ-loop
-first-factor-requires c κs = search needs
+first-run-requires : tie.Need-first-run-requires Inv-loop μ-loop
+first-run-requires c κs = search needs
 
 add-m : tie.Need-add-m Inv-loop μ-loop
-add-m c = omega (arith, run-within _ _ _ (whole (c .before .before .before .before .before .before .before .before .args .w .now) _ _ _ (c .before .first-factor .ensures)), length-drop (c .before .before .before .before .before .loop .m) (c .before .before .before .before .before .before .before .before .args .w .now))
+add-m c = omega (arith, run-within _ _ _ (whole (c .before .before .before .before .before .before .before .before .args .w .now) _ _ _ (c .before .first-run .ensures)), length-drop (c .before .before .before .before .before .loop .m) (c .before .before .before .before .before .before .before .before .args .w .now))
 
 loop-less : tie.Need-loop-less Inv-loop μ-loop
-loop-less c = omega (arith, run-some _ _ _ (c .before .first-factor .ensures))
+loop-less c = omega (arith, run-some _ _ _ (c .before .first-run .ensures))
 
 loop-again : tie.Need-loop-again Inv-loop μ-loop
 loop-again c =
     let s = c .before .before .before .before .before .before .before .before .pre in
-    flagging-next 8192 _ _ _ _ (s .2) (s .0) (search needs) (c .before .before .before .before .before .loop .inv) (s .1) _ _ (whole (c .before .before .before .before .before .before .before .before .args .w .now) _ _ _ (c .before .first-factor .ensures))
+    flagging-next 8192 _ _ _ _ (s .2) (s .0) (search needs) (c .before .before .before .before .before .loop .inv) (s .1) _ _ (whole (c .before .before .before .before .before .before .before .before .args .w .now) _ _ _ (c .before .first-run .ensures))
 
 same-length : tie.Need-same-length Inv-loop μ-loop
 same-length c = search needs
@@ -84,10 +84,10 @@ flag-heads-spec =
     add-t
     mul-t-2
     slice-write-t
-    sub-first-factor
-    part-first-factor-start
-    part-first-factor-end
-    first-factor-requires
+    sub-first-run
+    part-first-run-start
+    part-first-run-end
+    first-run-requires
     add-m
     loop-less
     loop-again

@@ -10,6 +10,7 @@ pub mod Determined
 pub mod Contracts
 pub mod Permits
 pub mod Equal
+pub mod OnStrand
 pub mod Written
 pub mod Marks
 pub mod Keyed

@@ -8,4 +8,5 @@ pub mod Demands
 -- What only the contracts of inner functions cite
 pub mod Behind
 pub mod Facings
+pub mod OnStrand
 pub mod Strands

@@ -7,15 +7,20 @@ ghost use Rattle.words.specs.Block.{Scan, FirstFactor};
 ghost use Rattle.words.specs.Factor.{FirstRun, factorTable};
 ghost use Rattle.words.specs.Least.{better};
 ghost use Rattle.words.specs.Ring.{start, reading};
+ghost use Rattle.words.specs.Strand.{onStrand};
 ghost use Rattle.ring.specs.Judging.{most, over};
+ghost use Rattle.ring.specs.Facings.{facingTable};
 ghost use Rattle.ring.specs.Behind.{behindOf};
 ghost use Rattle.ring.specs.Answers.{factoredOf, factoredTable};
 use super::answer::Factored;
+use super::facing::facing_table;
 use super::judge::Verdict;
 use super::judge::judge;
 use super::judge::number_of;
 use super::judge::place_of;
 use super::reading::lower_of;
+use super::strand::place;
+use super::strand::shown;
 
 // A first factor: its length, how many letters its scan has read, and where the letter stands that was expected next.
 pub struct Factor {
@@ -24,22 +29,24 @@ pub struct Factor {
     pub back: usize,
 }
 
-// The longest Lyndon word that is a prefix. The scan goes on from what is read of the slice already: `read` letters, and the one
-// at `back` is expected next.
-pub fn first_factor(s: &[u8], read: usize, back: usize) -> Factor
-    requires { ⌜ Scan (now s) read back ⌝ }
-    ensures { λ r. ⌜ FirstFactor (now (s .entry)) (r .size) (r .read) (r .back) ⌝ }
+// The longest Lyndon word that is a prefix of a strand. The scan goes on from what is read of the slice already: `read` letters,
+// and the one at `back` is expected next. Letters are the same on either strand alike, so only two that differ are looked up.
+pub fn first_factor(facing: &[u8; 256], s: &[u8], strand: u8, read: usize, back: usize) -> Factor
+    requires { ⌜ (now facing ≡ facingTable) × Scan (onStrand strand (now s)) read back ⌝ }
+    ensures { λ r. ⌜ FirstFactor (onStrand strand (now (s .entry))) (r .size) (r .read) (r .back) ⌝ }
 {
     let mut j: usize = read;
     let mut k: usize = back;
     while j < s.len() {
-        if s[j] < s[k] {
-            break;
-        }
-        if s[k] < s[j] {
-            k = 0;
-        } else {
+        let a = s[place(strand, s.len(), j)];
+        let b = s[place(strand, s.len(), k)];
+        if a == b {
             k += 1;
+        } else {
+            if shown(facing, strand, a) < shown(facing, strand, b) {
+                break;
+            }
+            k = 0;
         }
         j += 1;
     }
@@ -56,12 +63,12 @@ pub struct Run {
     pub end: usize,
 }
 
-// The first run of equal factors, in one scan of the letters.
-pub fn first_run(s: &[u8]) -> Run
-    requires { ⌜ 0 < length (now s) ⌝ }
-    ensures { λ r. ⌜ FirstRun (now (s .entry)) (r .size) (r .end) ⌝ }
+// The first run of equal factors of a strand, in one scan of the letters.
+pub fn first_run(facing: &[u8; 256], s: &[u8], strand: u8) -> Run
+    requires { ⌜ (now facing ≡ facingTable) × (0 < length (now s)) ⌝ }
+    ensures { λ r. ⌜ FirstRun (onStrand strand (now (s .entry))) (r .size) (r .end) ⌝ }
 {
-    let f = first_factor(s, 1, 0);
+    let f = first_factor(facing, s, strand, 1, 0);
     let size = f.size;
     let read = f.read;
     Run {
@@ -97,12 +104,12 @@ fn read_behind(size: usize, read: usize, back: usize) -> Behind
 }
 
 // The one of two positions whose reading is lower, where a run begins at the first: the start is never inside a run.
-fn best_of(ring: &[u8], head: bool, from: usize, best: usize) -> usize
-    requires { ⌜ (from < length (now ring)) × (best < length (now ring)) ⌝ }
+fn best_of(facing: &[u8; 256], ring: &[u8], head: bool, from: usize, best: usize) -> usize
+    requires { ⌜ (now facing ≡ facingTable) × (from < length (now ring)) × (best < length (now ring)) ⌝ }
     ensures { λ r. ⌜ r ≡ cond head (better (reading (now (ring .entry))) from best) best ⌝ }
 {
     if head {
-        return lower_of(ring, from, best);
+        return lower_of(facing, ring, 0, from, best);
     }
     best
 }
@@ -120,6 +127,7 @@ fn fill_factors(ring: &[u8], table: &mut [u16]) -> Route
     ensures { λ r. ⌜ (r .count ≡ length (factorTable (now (ring .entry)))) × (r .start ≡ start (now (ring .entry))) ⌝ }
     ensures { λ _. ⌜ now (table .exit) ≡ over (factorTable (now (ring .entry))) (now (table .entry)) ⌝ }
 {
+    let facing = facing_table();
     let mut rest = ring;
     let mut from: usize = 0;
     let mut count: usize = 0;
@@ -128,11 +136,11 @@ fn fill_factors(ring: &[u8], table: &mut [u16]) -> Route
     let mut back: usize = 0;
     let mut head = true;
     while 0 < rest.len() {
-        let f = first_factor(rest, read, back);
+        let f = first_factor(&facing, rest, 0, read, back);
         let size = f.size;
         table[count] = from as u16;
         count += 1;
-        best = best_of(ring, head, from, best);
+        best = best_of(&facing, ring, head, from, best);
         from += size;
         rest = &rest[size..];
         let next = read_behind(size, f.read, f.back);

@@ -13,67 +13,70 @@ use Rattle.ring.proofs.factor.fill_factors.Statement.{statement}
 use Rattle.ring.proofs.factor.fill_factors.Tie as tie
 
 abbrev Inv-loop : tie.InvT-loop
-Inv-loop ring table₀ rest₀ from₀ count₀ best₀ read₀ back₀ head₀ table rest from count best read back head =
+Inv-loop ring table₀ facing rest₀ from₀ count₀ best₀ read₀ back₀ head₀ table rest from count best read back head =
     (length table ≡ length table₀) × Routing ring table₀ table rest from count best read back head
 
 abbrev μ-loop : tie.MeasureT-loop
-μ-loop ring table₀ rest₀ from₀ count₀ best₀ read₀ back₀ head₀ table rest from count best read back head =
+μ-loop ring table₀ facing rest₀ from₀ count₀ best₀ read₀ back₀ head₀ table rest from count best read back head =
     length rest
+
+facing-table-requires : tie.Need-facing-table-requires Inv-loop μ-loop
+facing-table-requires c κs = search needs
 
 loop-holds : tie.Need-loop-holds Inv-loop μ-loop
 loop-holds c = (search needs, routing-none _ _)
 
 first-factor-requires : tie.Need-first-factor-requires Inv-loop μ-loop
-first-factor-requires c κs = c .before .loop .inv .1 .scan (search needs)
+first-factor-requires c κs = (search needs, c .before .before .loop .inv .1 .scan (search needs))
 
 cast-table : tie.Need-cast-table Inv-loop μ-loop
-cast-table c = (let h = c .before .before .loop .inv .1 .within in search needs)
+cast-table c = (let h = c .before .before .before .loop .inv .1 .within in search needs)
 
 mul-table : tie.Need-mul-table Inv-loop μ-loop
 mul-table c = search needs
 
 slice-write-table : tie.Need-slice-write-table Inv-loop μ-loop
 slice-write-table c =
-    let k = c .before .before .loop .inv .1 in
+    let k = c .before .before .before .loop .inv .1 in
     let h = routing-left _ _ _ _ _ _ _ _ _ _ k in
     let f = k .few in
     search needs
 
 add-count : tie.Need-add-count Inv-loop μ-loop
-add-count c = (let f = c .before .before .loop .inv .1 .few in let h = c .before .before .loop .inv .1 .within in search needs)
+add-count c = (let f = c .before .before .before .loop .inv .1 .few in let h = c .before .before .before .loop .inv .1 .within in search needs)
 
 best-of-requires : tie.Need-best-of-requires Inv-loop μ-loop
 best-of-requires c κs =
-    let k = c .before .before .loop .inv .1 in
-    (omega (arith, routing-left _ _ _ _ _ _ _ _ _ _ k), best-below _ _ _ (search needs) (k .lowest))
+    let k = c .before .before .before .before .loop .inv .1 in
+    (search needs, omega (arith, routing-left _ _ _ _ _ _ _ _ _ _ k), best-below _ _ _ (search needs) (k .lowest))
 
 add-from : tie.Need-add-from Inv-loop μ-loop
-add-from c = omega (arith, routing-fits _ _ _ _ _ _ _ _ _ _ (c .before .before .before .loop .inv .1) _ _ _ (c .before .first-factor .ensures))
+add-from c = omega (arith, routing-fits _ _ _ _ _ _ _ _ _ _ (c .before .before .before .before .before .loop .inv .1) _ _ _ (c .before .before .first-factor .ensures))
 
 sub-rest : tie.Need-sub-rest Inv-loop μ-loop
-sub-rest c = omega (arith, factor-within _ _ _ _ (c .before .first-factor .ensures))
+sub-rest c = omega (arith, factor-within _ _ _ _ (c .before .before .first-factor .ensures))
 
 part-rest-start : tie.Need-part-rest-start Inv-loop μ-loop
-part-rest-start c = (let h = factor-within _ _ _ _ (c .before .first-factor .ensures) in search needs)
+part-rest-start c = (let h = factor-within _ _ _ _ (c .before .before .first-factor .ensures) in search needs)
 
 part-rest-end : tie.Need-part-rest-end Inv-loop μ-loop
-part-rest-end c = (let h = factor-within _ _ _ _ (c .before .first-factor .ensures) in search needs)
+part-rest-end c = (let h = factor-within _ _ _ _ (c .before .before .first-factor .ensures) in search needs)
 
 read-behind-requires : tie.Need-read-behind-requires Inv-loop μ-loop
-read-behind-requires c κs = omega (arith, factor-within _ _ _ _ (c .before .before .first-factor .ensures))
+read-behind-requires c κs = omega (arith, factor-within _ _ _ _ (c .before .before .before .first-factor .ensures))
 
 loop-less : tie.Need-loop-less Inv-loop μ-loop
 loop-less c =
-    let r = c .before .before .before .before .before .loop .rest .now in
-    let p = c .before .before .before .first-factor .result .size in
-    omega (arith, length-take-le (length r - p) (drop p r) (rw length-drop (omega arith)), length-drop p r, factor-within _ _ _ _ (c .before .before .before .first-factor .ensures))
+    let r = c .before .before .before .before .before .before .before .loop .rest .now in
+    let p = c .before .before .before .before .first-factor .result .size in
+    omega (arith, length-take-le (length r - p) (drop p r) (rw length-drop (omega arith)), length-drop p r, factor-within _ _ _ _ (c .before .before .before .before .first-factor .ensures))
 
 loop-again : tie.Need-loop-again Inv-loop μ-loop
 loop-again c =
-    let k = c .before .before .before .before .before .loop .inv .1 in
-    let f = c .before .before .before .first-factor .ensures in
+    let k = c .before .before .before .before .before .before .before .loop .inv .1 in
+    let f = c .before .before .before .before .first-factor .ensures in
     let b = rw (← c .before .before .best-of .ensures) at (routing-best _ _ _ _ _ _ _ _ _ _ k _ _ _ f (search needs)) in
-    (rw length-set (c .before .before .before .before .before .loop .inv .0), routing-next _ _ _ _ _ _ _ _ _ _ k _ _ _ f _ _ _ refl (search needs) (search needs) (c .read-behind .ensures) b)
+    (rw length-set (c .before .before .before .before .before .before .before .loop .inv .0), routing-next _ _ _ _ _ _ _ _ _ _ k _ _ _ f _ _ _ refl (search needs) (search needs) (c .read-behind .ensures) b)
 
 same-length : tie.Need-same-length Inv-loop μ-loop
 same-length c = search needs
@@ -87,6 +90,7 @@ fill-factors-spec =
     (tie.spec
     Inv-loop
     μ-loop
+    facing-table-requires
     loop-holds
     first-factor-requires
     cast-table

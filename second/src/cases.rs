@@ -57,6 +57,41 @@ pub fn fibonacci(a: u8, b: u8, n: usize) -> Vec<u8> {
     longer
 }
 
+/// A word written over and over with one letter changed somewhere, n letters.
+pub fn with_defect(numbers: &mut Numbers, word: &[u8], n: usize) -> Vec<u8> {
+    let mut ring = over(word, n);
+    let at = numbers.below(n);
+    ring[at] = b"ACGT"[numbers.below(4)];
+    ring
+}
+
+/// The least de Bruijn word, cut to n letters: Lyndon words of ascending order, those whose length divides the word's order.
+pub fn de_bruijn(alphabet: &[u8], n: usize) -> Vec<u8> {
+    let order = (1..).find(|&order| alphabet.len().pow(order) >= n).unwrap() as usize;
+    let mut ring = Vec::new();
+    let mut lyndon = vec![0];
+    while !lyndon.is_empty() {
+        if order % lyndon.len() == 0 {
+            ring.extend(lyndon.iter().map(|&d| alphabet[d]));
+        }
+        // the next Lyndon word: repeated to the order, the last letters that are highest dropped, the one before raised
+        lyndon = lyndon.iter().copied().cycle().take(order).collect();
+        while lyndon.last() == Some(&(alphabet.len() - 1)) {
+            lyndon.pop();
+        }
+        if let Some(last) = lyndon.last_mut() {
+            *last += 1;
+        }
+    }
+    ring.truncate(n);
+    ring
+}
+
+/// The letters A, C, G, T exchanged for other bytes.
+pub fn recoded(ring: &[u8], bytes: [u8; 4]) -> Vec<u8> {
+    ring.iter().map(|letter| bytes[b"ACGT".iter().position(|l| l == letter).unwrap()]).collect()
+}
+
 /// A^(n-1) C.
 pub fn all_but_last(n: usize) -> Vec<u8> {
     let mut ring = vec![b'A'; n];
@@ -104,6 +139,8 @@ pub fn families(numbers: &mut Numbers, n: usize) -> Vec<Vec<u8>> {
         over(b"CA", n),
         over(&unit, n),
         tail,
+        with_defect(numbers, &unit, n),
+        crate::words::reading(&de_bruijn(b"ACGT", n), n / 3),
         fibonacci(b'A', b'C', n),
         fibonacci(b'T', b'A', n),
         far_back(n),

@@ -132,8 +132,7 @@ impl Comparison {
         let verdict = judge(kind, ring, short);
         let (number, place) = numbers(verdict);
         let done = verdict.ok().map(|()| key.expect("the key of a ring that is taken"));
-        let own = done.map_or(&[][..], |k| &k.own);
-        let other = done.and_then(|k| k.other.as_deref()).unwrap_or(&[]);
+        let (own, other) = done.map_or((&[][..], &[][..]), Key::readings);
         let (mut a, mut b) = (self.bytes(first), self.bytes(second));
         let fields = marks(ring, place, done);
         self.call("write_key", kind, ring, number, &fields, |v| probe::write_key(kind, &lent, &mut a, &mut b, v));
@@ -145,6 +144,7 @@ impl Comparison {
         self.unchanged("key, first room", kind, ring, &a, own);
         self.unchanged("key, second room", kind, ring, &b, other);
         self.unchanged("rooms", kind, ring, &lent, ring);
+        self.key_part(kind, ring, first, second, done);
     }
 
     /// A reading written: the only refusal is a short room.

@@ -12,6 +12,13 @@ pub struct Key {
     pub other: Option<Vec<u8>>,
 }
 
+impl Key {
+    /// What the key's two rooms begin with; nothing in the second for one strand.
+    pub fn readings(&self) -> (&[u8], &[u8]) {
+        (&self.own, self.other.as_deref().unwrap_or(&[]))
+    }
+}
+
 fn start(ring: &[u8]) -> usize {
     if ring.len() <= SHORT {
         words::start(ring)

@@ -16,14 +16,14 @@ fn ranks(word: &[u8], round: bool) -> Vec<usize> {
             };
             (rank[i], behind)
         };
-        let mut order: Vec<usize> = (0..n).collect();
-        order.sort_unstable_by_key(|&i| pair(i));
+        let mut order: Vec<((usize, usize), usize)> = (0..n).map(|i| (pair(i), i)).collect();
+        order.sort_unstable();
         let mut next = vec![1; n];
-        for k in 1..n {
-            let grown = (pair(order[k]) != pair(order[k - 1])) as usize;
-            next[order[k]] = next[order[k - 1]] + grown;
+        for two in order.windows(2) {
+            let grown = (two[1].0 != two[0].0) as usize;
+            next[two[1].1] = next[two[0].1] + grown;
         }
-        let most = next[order[n - 1]];
+        let most = next[order[n - 1].1];
         rank = next;
         if most == n {
             break;

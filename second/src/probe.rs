@@ -51,14 +51,35 @@ mod c {
         pub fn probe_sheet_letters(bytes: *const u8, n: usize, values: *mut u64, v: usize) -> u8;
         pub fn probe_sheet_original(bytes: *const u8, n: usize, room: *mut u8, r: usize, values: *mut u64, v: usize) -> u8;
         pub fn probe_sheet_walk(book: *const u8, n: usize, values: *mut u64, v: usize) -> u8;
+        pub fn probe_report(input: *const u8, n: usize, room: *mut u8, r: usize, values: *mut u64, v: usize) -> u8;
+        pub fn probe_key_part(
+            kind: u8,
+            ring: *const u8,
+            n: usize,
+            first: *mut u8,
+            f: usize,
+            second: *mut u8,
+            s: usize,
+            part: *mut super::Part,
+        );
+        pub fn probe_sheet_letters_part(bytes: *const u8, n: usize, part: *mut super::Part);
     }
+}
+
+/// A part of lent bytes, as a call hands it back: where it begins, and its length.
+#[repr(C)]
+#[derive(Clone, Copy, Debug, PartialEq, Eq)]
+pub struct Part {
+    pub at: *const u8,
+    pub size: usize,
 }
 
 type Bytes = Lent<u8>;
 type Table = Lent<u16>;
 type Values = Lent<u64>;
 
-// Each slice is a live vector's part of the length given with it, and no two lent for writing overlap.
+// Each slice is a live vector's part of the length given with it, and no two lent for writing overlap. A part lent for
+// writing is one entry long and holds a slice already.
 
 pub fn check(kind: u8, ring: &Bytes, values: &mut Values) -> u8 {
     unsafe { c::probe_check(kind, ring.front(), ring.size(), values.front_mut(), values.size()) }
@@ -141,4 +162,19 @@ pub fn sheet_original(bytes: &Bytes, room: &mut Bytes, values: &mut Values) -> u
 
 pub fn sheet_walk(book: &Bytes, values: &mut Values) -> u8 {
     unsafe { c::probe_sheet_walk(book.front(), book.size(), values.front_mut(), values.size()) }
+}
+
+pub fn report(input: &Bytes, room: &mut Bytes, values: &mut Values) -> u8 {
+    let (n, r, v) = (input.size(), room.size(), values.size());
+    unsafe { c::probe_report(input.front(), n, room.front_mut(), r, values.front_mut(), v) }
+}
+
+pub fn key_part(kind: u8, ring: &Bytes, first: &mut Bytes, second: &mut Bytes, part: &mut Lent<Part>) {
+    let (n, f, s) = (ring.size(), first.size(), second.size());
+    let (first, second, part) = (first.front_mut(), second.front_mut(), part.front_mut());
+    unsafe { c::probe_key_part(kind, ring.front(), n, first, f, second, s, part) }
+}
+
+pub fn sheet_letters_part(bytes: &Bytes, part: &mut Lent<Part>) {
+    unsafe { c::probe_sheet_letters_part(bytes.front(), bytes.size(), part.front_mut()) }
 }

@@ -1,6 +1,6 @@
 //! The program ringline: what it prints for an input, and the program itself run as a process.
-use crate::facts;
-use crate::keys;
+use crate::facts::{self, Facts};
+use crate::keys::{self, Key};
 use crate::rules::judge;
 use std::io::{Read, Write};
 use std::path::{Path, PathBuf};
@@ -9,20 +9,29 @@ use std::process::{Command, Stdio};
 /// As many bytes of the input are read.
 const READ: usize = 8194;
 
+/// A room of as many bytes holds every report; the call leaves a shorter one alone.
+pub const ROOMY: usize = 160_000;
+
 /// What the program prints.
-pub fn report(input: &[u8]) -> Vec<u8> {
-    let read = &input[..input.len().min(READ)];
+pub fn printed(input: &[u8]) -> Vec<u8> {
+    report(&input[..input.len().min(READ)])
+}
+
+/// The report on the bytes read.
+pub fn report(read: &[u8]) -> Vec<u8> {
     let ring = read.strip_suffix(b"\n").unwrap_or(read);
-    if let Err(refusal) = judge(1, ring, false) {
-        return format!("{} {}\n", refusal.number, refusal.place).into_bytes();
+    match judge(1, ring, false) {
+        Ok(()) => lines(&facts::of(ring), &keys::key(1, ring)),
+        Err(refusal) => format!("{} {}\n", refusal.number, refusal.place).into_bytes(),
     }
-    let facts = facts::of(ring);
-    let key = keys::key(1, ring);
+}
+
+/// The five lines of a base ring that is taken.
+pub fn lines(facts: &Facts, key: &Key) -> Vec<u8> {
     let line = |table: &[usize]| table.iter().map(usize::to_string).collect::<Vec<_>>().join(" ");
-    let letters = String::from_utf8(key.letters).unwrap();
-    format!(
-        "0 {} {} {} {}\n{}\n{}\n{}\n{} {} {letters}\n",
-        ring.len(),
+    let mut text = format!(
+        "0 {} {} {} {}\n{}\n{}\n{}\n{} {} ",
+        key.letters.len(),
         facts.start,
         facts.repeat,
         facts.pairs,
@@ -32,7 +41,10 @@ pub fn report(input: &[u8]) -> Vec<u8> {
         key.strand,
         key.start,
     )
-    .into_bytes()
+    .into_bytes();
+    text.extend(&key.letters);
+    text.push(b'\n');
+    text
 }
 
 /// The program, where it is built: target/bin/ringline.

@@ -31,6 +31,7 @@ impl Comparison {
         self.call("sheet_read", 0, bytes, number, &fields, |v| probe::sheet_read(&lent, v));
         let fields = sheet.as_ref().map_or([0, 0], |s| [s.before as u64, s.letters.len() as u64]);
         self.call("sheet_letters", 0, bytes, number, &fields, |v| probe::sheet_letters(&lent, v));
+        self.letters_part(bytes, sheet.as_ref().ok());
         for &size in sizes {
             let mut room = self.bytes(size);
             let made = match &sheet {

@@ -51,3 +51,7 @@ partFields a part = a .before ∷ length part ∷ []
 
 abbrev pub walkedFields : Walked → List ℕ
 walkedFields a = a .place ∷ a .sheets ∷ []
+
+-- an answer that is a length alone
+abbrev pub lengthFields : ℕ → List ℕ
+lengthFields n = n ∷ []

@@ -17,10 +17,6 @@ use Rattle.ring.proofs.Judging.{says-kind, says-empty, says-long, says-
 
 -- ---- the first position that has no letter
 
-pub bad-within : (kind : ℕ) (w : List ℕ) → firstBad kind w ≤ length w
-bad-within kind [] = omega arith
-bad-within kind (a ∷ w) = by-test (isLetter kind a) (λ t. rw t (omega (arith, bad-within kind w))) (λ t. rw t (omega arith))
-
 pub bad-here : (kind : ℕ) (w : List ℕ) → firstBad kind w < length w → isLetter kind (getD w (firstBad kind w) 0) ≡ false
 bad-here kind [] h = absurd (omega arith)
 bad-here kind (a ∷ w) h =

@@ -54,7 +54,10 @@ fn fight(ring: &[u8]) -> Ended
     let mut p: usize = 0;
     let mut q: usize = 1;
     let mut read: usize = 0;
-    'duels: while q < n {
+    let pairs = 'duels: loop {
+        if n <= q {
+            break 'duels read;
+        }
         let mut k: usize = 0;
         let met = 'scan: loop {
             if k == n {
@@ -66,10 +69,7 @@ fn fight(ring: &[u8]) -> Ended
             k += 1;
         };
         if met == n {
-            return Ended {
-                start: p,
-                pairs: read + n,
-            };
+            break 'duels read + n;
         }
         read += met + 1;
         let a = letter(&facing, ring, 0, p + met);
@@ -77,11 +77,8 @@ fn fight(ring: &[u8]) -> Ended
         let next = moved(p, q, met, a, b);
         p = next.p;
         q = next.q;
-    }
-    Ended {
-        start: p,
-        pairs: read,
-    }
+    };
+    Ended { start: p, pairs }
 }
 
 // The start by duels, lent no table, and the pairs read.

@@ -1,27 +1,25 @@
--- Sheets joined one behind another are walked back to just those sheets; a book that is not refused is the sheets found, joined.
+-- A book: sheets joined one behind another are walked back to just those sheets, and a refusal refuses it, exactly when 01 says.
 -- Assumes nothing.
-use mathlib.Core.Path.{_≡_, refl, sym, ap, _∙_, subst}
+use mathlib.Core.Path.{_≡_, refl, sym, ap, ap₂, _∙_, subst}
+use mathlib.Core.Logic.{_↔_}
 use mathlib.Core.List.{List, [], _∷_, _++_, append-nil, append-assoc, reverse, reverseAux, reverse-reverse}
 use Prim.Native.Nat.{ℕ, zero, suc, _≤_, _<_}
 use native.Mathlib.Omega.{arith}
 use borrow.Author.Tests.{eq-eqb, ne-eqb, eqb-true, eqb-false}
 use lib.Dec.{eqb}
-use lib.ListN.{length, take, drop, length-append, length-take, take-append-drop, List·getD-eq-default}
-use lib.Seq.{take-at, drop-at, getD-take}
+use lib.ListN.{length, take, drop, length-append, List·getD-append, List·getD-eq-default}
+use lib.Seq.{take-at, drop-at}
 use Rattle.words.specs.Strand.{strand, keyStart}
 use Rattle.words.proofs.Search.{by-test, either, lt-or-ge}
 use Rattle.sheet.specs.declared.answer.Found.{Found}
 use Rattle.sheet.specs.declared.answer.Found.the-variants.{Sheet, Refused}
-use Rattle.sheet.specs.Sheet.{Written, sheetOf, marksOf}
-use Rattle.sheet.specs.Trailer.{Bytes, before, sheetIn, foundOf, numberOf}
-use Rattle.sheet.specs.Book.{joined, through, stopped, stepAs, walkBack, walkOf, walkedOf}
-use Rattle.sheet.proofs.Rounds.{found-written, length-bytes}
-use Rattle.sheet.proofs.Accepted.{Accepted, accepted}
-
--- each of a list is a sheet that the writer makes
-abbrev pub AllWritten : List (List ℕ) → Type 0
-AllWritten [] = Unit {0}
-AllWritten (s ∷ ss) = Written s × AllWritten ss
+use Rattle.sheet.specs.Sheet.{Written, sheetOf}
+use Rattle.sheet.specs.Trailer.{Bytes, foundOf, numberOf}
+use Rattle.sheet.specs.Book.{joined, Walk, through, stopped, stepAs, walkBack, walkOf, walkedAs, walkedOf}
+use Rattle.sheet.specs.Demands.{SheetGiven, AllWritten, BookGiven, sheets, stops, Holds}
+use Rattle.sheet.proofs.Numbers.{exactly-given, refused-is, given-found, found-given}
+use Rattle.sheet.proofs.Rounds.{size-written, found-written}
+use Rattle.sheet.proofs.Accepted.{Ends, taken-ends}
 
 -- ---- one step of the walk
 
@@ -34,8 +32,7 @@ pub walk-step : (f : ℕ) (book : List ℕ) (ss : List (List ℕ)) (r : Found) �
 walk-step f book ss r h e = rw (ne-eqb (length book) 0 (omega arith), e)
 
 written-long : (s : List ℕ) → Written s → 8 ≤ length s
-unfolding sheetOf
-written-long s r = rw (← r .is) (omega (arith, length-bytes [] (marksOf (r .kind) (r .deposit))))
+written-long s r = omega (arith, ap length (r .is), size-written (r .kind) (r .deposit) (r .permitted))
 
 -- the sheet nearest the end is found, and what stands before it is walked next
 walk-one : (f : ℕ) (pre s : List ℕ) (ss : List (List ℕ)) → Written s → walkBack (suc f) (pre ++ s) ss ≡ walkBack f pre (s ∷ ss)
@@ -78,12 +75,9 @@ walk-joined ss a =
     subst (λ b. walkBack (length b) b [] ≡ through ss) e
     (walk-joined-back (reverse ss) (length (joinedBack (reverse ss))) [] (written-back ss [] a tt) (omega arith) ∙ ap through (reverse-reverse ss))
 
-pub walked-joined : (ss : List (List ℕ)) → AllWritten ss → walkedOf (joined ss) ≡ record { number = 0; place = 0; sheets = length ss }
-walked-joined ss a = rw (walk-joined ss a)
-
--- "A book of 0 bytes holds 0 sheets" (01)
-pub walked-empty : walkedOf [] ≡ record { number = 0; place = 0; sheets = 0 }
-walked-empty = walked-joined [] tt
+-- no other list of sheets makes the same book
+one-book : (ss ts : List (List ℕ)) → AllWritten ss → AllWritten ts → joined ss ≡ joined ts → ss ≡ ts
+one-book ss ts a c e = let h : through ss ≡ through ts = sym (walk-joined ss a) ∙ ap walkOf e ∙ walk-joined ts c in cc
 
 -- ---- a refusal refuses the book
 
@@ -101,28 +95,26 @@ module _ (pre : List ℕ) (h : 0 < length pre) (k p : ℕ) (e : foundOf pre ≡ 
       ∙ stop-behind rs f (s ∷ ss) (w .1) (omega (arith, written-long s (w .0), length-append (pre ++ joinedBack rs) s))
 
   -- "a refusal there ends the walk and refuses the book with that number" (01): whatever sheets stand behind it
-  pub walk-refused : (ss : List (List ℕ)) → AllWritten ss → walkOf (pre ++ joined ss) ≡ stopped k p
+  walk-refused : (ss : List (List ℕ)) → AllWritten ss → walkOf (pre ++ joined ss) ≡ stopped k p
   unfolding walkOf
   walk-refused ss a =
       subst (λ b. walkBack (length (pre ++ b)) (pre ++ b) [] ≡ stopped k p) (joined-back ss [])
       (stop-behind (reverse ss) (length (pre ++ joinedBack (reverse ss))) [] (written-back ss [] a tt) (omega arith))
 
--- ---- a book that is not refused is the sheets found, joined
+-- ---- where a walk ends: at the front, or at bytes that are refused, and behind them sheets that the writer makes
 
-record Parts (book : List ℕ) (ss ts : List (List ℕ)) : Type 0 where
-  pub sheets : List (List ℕ)
-  pub all : ts ≡ sheets ++ ss
-  pub are : joined sheets ≡ book
-  pub written : AllWritten sheets
+data Ended (book : List ℕ) (ss : List (List ℕ)) : Walk → Type 0 where
+  front : (gs : List (List ℕ)) → AllWritten gs → joined gs ≡ book → Ended book ss (through (gs ++ ss))
+  early : {k p : ℕ} (pre : List ℕ) (gs : List (List ℕ)) → 0 < length pre → SheetGiven pre k p → (k ≡ 0 → ⊥) → AllWritten gs → pre ++ joined gs ≡ book
+      → Ended book ss (stopped k p)
 
-none : (book : List ℕ) → length book ≡ 0 → [] ≡ book
-none [] e = refl
-none (a ∷ b) e = absurd (omega arith)
+no-bytes : (book : List ℕ) → length book ≡ 0 → [] ≡ book
+no-bytes [] e = refl
+no-bytes (a ∷ b) e = absurd (omega arith)
 
-bytes-take : (n : ℕ) (b : List ℕ) → Bytes b → Bytes (take n b)
-bytes-take n b y i =
-    either (lt-or-ge i n) (λ h. rw (getD-take n b i 0 h) (y i))
-    (λ h. rw (List·getD-eq-default (take n b) 0 {n = i} (rw length-take (omega arith))) (omega arith))
+bytes-front : (a s : List ℕ) → Bytes (a ++ s) → Bytes a
+bytes-front a s y i =
+    either (lt-or-ge i (length a)) (λ h. rw (← List·getD-append a s 0 i h) (y i)) (λ h. rw (List·getD-eq-default a 0 {n = i} h) (omega arith))
 
 joined-append : (gs : List (List ℕ)) (s : List ℕ) → joined (gs ++ s ∷ []) ≡ joined gs ++ s
 joined-append [] s = append-nil s
@@ -132,42 +124,64 @@ written-append : (gs : List (List ℕ)) (s : List ℕ) → AllWritten gs → Wri
 written-append [] s a r = (r, tt)
 written-append (g ∷ gs) s a r = (a .0, written-append gs s (a .1) r)
 
-no-parts : (f : ℕ) (book : List ℕ) (ss ts : List (List ℕ)) → length book ≡ 0 → walkBack f book ss ≡ through ts → Parts book ss ts
-no-parts f book ss ts e q =
-    let h : through ss ≡ through ts = sym (walk-none f book ss e) ∙ q in
-    record { sheets = []; all = cc; are = none book e; written = tt }
+-- one sheet more behind a book
+ended-more : (book s : List ℕ) (ss : List (List ℕ)) {v : Walk} → Written s → Ended book (s ∷ ss) v → Ended (book ++ s) ss v
+ended-more book s ss r (front gs a e) =
+    subst (λ ts. Ended (book ++ s) ss (through ts)) (append-assoc gs (s ∷ []) ss)
+    (front (gs ++ s ∷ []) (written-append gs s a r) (joined-append gs s ∙ ap (λ x. x ++ s) e))
+ended-more book s ss r (early pre gs h g n a e) =
+    early pre (gs ++ s ∷ []) h g n (written-append gs s a r)
+    (ap (λ x. pre ++ x) (joined-append gs s) ∙ sym (append-assoc pre (joined gs) s) ∙ ap (λ x. x ++ s) e)
 
-more-parts : (book : List ℕ) (n : ℕ) (ss ts : List (List ℕ)) → Written (drop n book) → Parts (take n book) (drop n book ∷ ss) ts → Parts book ss ts
-more-parts book n ss ts w p = record {
-  sheets = p .sheets ++ drop n book ∷ [];
-  all = p .all ∙ sym (append-assoc (p .sheets) (drop n book ∷ []) ss);
-  are = joined-append (p .sheets) (drop n book) ∙ ap (λ x. x ++ drop n book) (p .are) ∙ take-append-drop n book;
-  written = written-append (p .sheets) (drop n book) (p .written) w;
-}
+-- a walk of no bytes ends at the front
+ended-none : (f : ℕ) (book : List ℕ) (ss : List (List ℕ)) → length book ≡ 0 → Ended book ss (walkBack f book ss)
+ended-none f book ss e = subst (Ended book ss) (sym (walk-none f book ss e)) (front [] tt (no-bytes book e))
 
-walk-parts : (f : ℕ) (book : List ℕ) (ss ts : List (List ℕ)) → Bytes book → length book ≤ f → walkBack f book ss ≡ through ts → Parts book ss ts
-walk-parts zero book ss ts y h q = no-parts zero book ss ts (omega arith) q
-walk-parts (suc f) book ss ts y h q =
-    by-test (eqb (length book) 0) (λ t. no-parts (suc f) book ss ts (eqb-true _ _ t) q)
+-- one that is refused at once ends there
+ended-here : (f : ℕ) (book : List ℕ) (ss : List (List ℕ)) → 0 < length book → (numberOf (foundOf book) ≡ 0 → ⊥) → Ended book ss (walkBack (suc f) book ss)
+ended-here f book ss h n =
+    subst (Ended book ss) (sym (walk-step f book ss _ h (refused-is (foundOf book) n)))
+    (early book [] h (found-given book) n tt (append-nil book))
+
+walk-ended : (f : ℕ) (book : List ℕ) (ss : List (List ℕ)) → Bytes book → length book ≤ f → Ended book ss (walkBack f book ss)
+walk-ended zero book ss y h = ended-none zero book ss (omega arith)
+walk-ended (suc f) book ss y h =
+    by-test (eqb (length book) 0) (λ t. ended-none (suc f) book ss (eqb-true _ _ t))
     (λ t. by-test (eqb (numberOf (foundOf book)) 0)
-    (λ d. let k : Accepted book = accepted book y (eqb-true _ _ d) in
-    let s : walkBack (suc f) book ss ≡ walkBack f (take (before book) book) (drop (before book) book ∷ ss) =
-    walk-step f book ss (sheetIn book) (omega (arith, k .shorter)) (k .found) in
-    more-parts book (before book) ss ts (record { kind = _; deposit = _; permitted = k .permitted; is = sym (k .sheet) })
-    (walk-parts f (take (before book) book) (drop (before book) book ∷ ss) ts (bytes-take (before book) book y)
-    (rw length-take (omega (arith, k .shorter))) (sym s ∙ q)))
-    (λ d. absurd (refused-through (foundOf book) refl (eqb-false _ _ d) (eqb-false _ _ t))))
-  where
-    refused-through : (r : Found) → foundOf book ≡ r → (numberOf (foundOf book) ≡ 0 → ⊥) → (length book ≡ 0 → ⊥) → ⊥
-    refused-through (Sheet n s σ k bf) e d t = d (ap numberOf e)
-    refused-through (Refused k p) e d t =
-        let s : walkBack (suc f) book ss ≡ stopped k p = walk-step f book ss (Refused k p) (omega arith) e in
-        let z : _≡_ {A = ℕ} 0 1 = cc in omega arith
+    (λ z. let e : Ends book = taken-ends book y (eqb-true _ _ z) in
+    let s : List ℕ = sheetOf (e .kind) (e .deposit) in
+    let r : Written s = record { kind = e .kind; deposit = e .deposit; permitted = e .permitted; is = refl } in
+    subst (λ b. Ended b ss (walkBack (suc f) b ss)) (e .are)
+    (subst (Ended (e .front ++ s) ss) (sym (walk-one f (e .front) s ss r))
+    (ended-more (e .front) s ss r (walk-ended f (e .front) (s ∷ ss) (bytes-front (e .front) s (subst Bytes (sym (e .are)) y))
+    (omega (arith, written-long s r, length-append (e .front) s, ap length (e .are)))))))
+    (λ n. ended-here f book ss (omega (arith, eqb-false (length book) 0 t)) (eqb-false _ _ n)))
 
--- the sheets that the walk found, joined, are the book; and each is one that the writer makes
-pub walk-found : (book : List ℕ) (ss : List (List ℕ)) → Bytes book → walkOf book ≡ through ss → (joined ss ≡ book) × AllWritten ss
+-- ---- a book exactly when
+
+-- what a walk ends at is what the table gives
+ended-given : (book : List ℕ) {v : Walk} → Ended book [] v → BookGiven book (walkedAs v .number) (walkedAs v .place)
+ended-given book (front gs a e) = sheets gs a e
+ended-given book (early pre gs h g n a e) = stops pre gs h g n a e
+
+given-walked : (book : List ℕ) {k i : ℕ} → BookGiven book k i → (walkedOf book .number ≡ k) × (walkedOf book .place ≡ i)
+given-walked book (sheets ss a e) =
+    let w : walkOf book ≡ through ss = ap walkOf (sym e) ∙ walk-joined ss a in
+    (ap (λ v. walkedAs v .number) w, ap (λ v. walkedAs v .place) w)
+given-walked book (stops pre ss h g n a e) =
+    let t = given-found pre g in
+    let r : foundOf pre ≡ Refused _ _ = refused-is (foundOf pre) (λ z. n (sym (t .0) ∙ z)) ∙ ap₂ Refused (t .0) (t .1) in
+    let w : walkOf book ≡ stopped _ _ = ap walkOf (sym e) ∙ walk-refused pre h _ _ r ss a in
+    (ap (λ v. walkedAs v .number) w, ap (λ v. walkedAs v .place) w)
+
+-- a book is refused exactly when some bytes are that are not none, and behind them sheets that the writer makes; else it is such sheets
+pub book-exactly : (book : List ℕ) → Bytes book → (k i : ℕ) → ((walkedOf book .number ≡ k) × (walkedOf book .place ≡ i)) ↔ BookGiven book k i
 unfolding walkOf
-walk-found book ss y e =
-    let p : Parts book [] ss = walk-parts (length book) book [] ss y (omega arith) e in
-    let s : ss ≡ p .sheets = p .all ∙ append-nil (p .sheets) in
-    rw s (p .are, p .written)
+book-exactly book y k i =
+    exactly-given (BookGiven book) (walkedOf book .number) (walkedOf book .place) k i
+    (ended-given book (walk-ended (length book) book [] y (omega arith))) (given-walked book)
+
+-- 0 is given for sheets alone
+pub given-holds : (book : List ℕ) (n : ℕ) {k i : ℕ} → BookGiven book k i → k ≡ 0 → ((ss : List (List ℕ)) → AllWritten ss → joined ss ≡ book → n ≡ length ss) → Holds book n
+given-holds book n (sheets ss a e) z c = record { found = ss; written = a; are = e; counted = c ss a e; only = λ ts t f. one-book ts ss t a (f ∙ sym e) }
+given-holds book n (stops pre ss h g x a e) z c = absurd (x z)

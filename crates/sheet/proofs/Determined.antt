@@ -30,7 +30,7 @@ write-determined κs a r s e f p q = (promised-one (p .0) (q .0), promised-one (
 
 pub read-determined : (κs : Lifetimes.Lfts 1) (a : World.ArgsD read.signature κs) (r s : World.ResD read.signature κs) (e f : Clauses.AtExit (Fn.endedOf 1 read-kinds.ps read-kinds.r) κs)
     → read-reads.Post κs a r e → read-reads.Post κs a s f → r ≡ s
-read-determined κs a r s e f p q = promised-one p q
+read-determined κs a r s e f p q = promised-one (p .0) (q .0)
 
 pub letters-determined : (κs : Lifetimes.Lfts 1) (a : World.ArgsD letters.signature κs) (r s : World.ResD letters.signature κs) (e f : Clauses.AtExit (Fn.endedOf 1 letters-kinds.ps letters-kinds.r) κs)
     → letters-reads.Post κs a r e → letters-reads.Post κs a s f → (now r ≡ now s) × (r .ptr .0 ≡ s .ptr .0) × (r .ptr .1 ≡ s .ptr .1)
@@ -42,4 +42,4 @@ original-determined κs a r s e f p q = (promised-one (p .0) (q .0), promised-on
 
 pub walk-determined : (κs : Lifetimes.Lfts 1) (a : World.ArgsD walk.signature κs) (r s : World.ResD walk.signature κs) (e f : Clauses.AtExit (Fn.endedOf 1 walk-kinds.ps walk-kinds.r) κs)
     → walk-reads.Post κs a r e → walk-reads.Post κs a s f → r ≡ s
-walk-determined κs a r s e f p q = promised-one p q
+walk-determined κs a r s e f p q = promised-one (p .0) (q .0)

@@ -1,11 +1,15 @@
--- The laws of sheets and books, and the theorems above the contracts
-pub mod Rounds
-pub mod Accepted
+-- What 01 demands of the calls, and that a contract is met by such calls alone
+pub mod Demands
+pub mod Contracts
+pub mod Determined
+pub mod Examples
+-- The laws that they and the functions' proofs cite
 pub mod Replies
+pub mod Numbers
 pub mod Told
 pub mod Writing
+pub mod Rounds
+pub mod Accepted
 pub mod Books
 pub mod Walking
-pub mod Numbers
-pub mod Examples
-pub mod Determined
+pub mod Ruled

@@ -1,17 +1,18 @@
 -- Each answer of the trailer reader from what its tests showed.
 -- Assumes nothing.
 use mathlib.Core.Path.{_≡_, refl, sym, ap, ap₂, _∙_}
-use mathlib.Core.Bool.{true, false, cond}
+use mathlib.Core.Logic.{_⊎_, inl, inr}
+use mathlib.Core.Bool.{Bool, true, false, cond, not, _||_, _&&_, true≢false}
 use mathlib.Core.List.{List, [], _∷_}
 use Prim.Native.Nat.{ℕ, _≤_, _<_, _+_, _-_}
 use native.Mathlib.Omega.{arith}
-use borrow.Author.Tests.{eq-eqb, ne-eqb, lt-ltb, le-ltb}
-use lib.Dec.{ltb, leb}
+use borrow.Author.Tests.{eq-eqb, ne-eqb, eqb-true, eqb-false, lt-ltb, le-ltb, ltb-true, leb-true, not-true}
+use lib.Dec.{ltb, leb, eqb}
 use lib.ListN.{length, take, drop, getD, length-take, length-drop}
 use lib.Seq.{take-all, getD-drop}
-use Rattle.words.specs.Kind.{strands}
+use Rattle.words.specs.Kind.{known, stranded, strands}
 use Rattle.words.proofs.Kind.{no-strand}
-use Rattle.words.proofs.Search.{by-test}
+use Rattle.words.proofs.Search.{by-test, either}
 use Rattle.ring.specs.Rule.{rule, judged}
 use Rattle.ring.specs.Judging.{most, verdict}
 use Rattle.ring.specs.Answers.{isKey, checkedAs, checkedOf}
@@ -20,26 +21,71 @@ use Rattle.ring.specs.declared.judge.Verdict.the-variants.{Taken, Letter}
 use Rattle.sheet.specs.declared.answer.Found.the-variants.{Sheet, Refused}
 use Rattle.sheet.specs.Sheet.{isMade}
 use Rattle.sheet.specs.Trailer.{trailer, two, wayBack, before, marksIn, wrongMarks, badIn, Pointed, notMade, sheetIn, foundOf}
-use Rattle.sheet.proofs.Accepted.{right-marks}
+use Rattle.sheet.specs.Demands.{Wrong, tag-first, tag-last, no-kind, strand-above, feature-strand}
 
 -- ---- 6
 
+one-true : (s t : Bool) → (s || t) ≡ true → (s ≡ true) ⊎ (t ≡ true)
+one-true true t e = inl refl
+one-true false t e = inr e
+
+any-true : (s : Bool) → (s || true) ≡ true
+any-true true = refl
+any-true false = refl
+
 module _ (t : List ℕ) where
-  pub wrong-first : (getD t 6 0 ≡ 0x52 → ⊥) → true ≡ wrongMarks t
+  -- the test of 6, and 01's words for it
+  pub wrong-test : Wrong t → wrongMarks t ≡ true
+  unfolding wrongMarks stranded
+  wrong-test (tag-first h) = simp (ne-eqb (getD t 6 0) 0x52 h)
+  wrong-test (tag-last h) = simp (ne-eqb (getD t 7 0) 0x47 h, any-true)
+  wrong-test (no-kind e) = simp (e, any-true)
+  wrong-test (strand-above l) = simp (lt-ltb 1 (getD t 4 0) l, any-true)
+  wrong-test (feature-strand k s) = simp (k, s, any-true)
+
+  -- behind a known kind, strand 1 of a kind without strands is strand 1 of kind 0
+  test-strand : known (getD t 5 0) ≡ true → (eqb (getD t 4 0) 1 && not (stranded (getD t 5 0))) ≡ true → Wrong t
+  unfolding stranded
+  test-strand k e =
+      by-test (eqb (getD t 4 0) 1)
+      (λ s. by-test (eqb (getD t 5 0) 1) (λ o. absurd (true≢false (sym (simp (s, o) at e))))
+      (λ o. feature-strand (omega (arith, leb-true (getD t 5 0) 1 k, eqb-false (getD t 5 0) 1 o)) (eqb-true _ _ s)))
+      (λ s. absurd (true≢false (sym (simp s at e))))
+
+  pub test-wrong : wrongMarks t ≡ true → Wrong t
   unfolding wrongMarks
-  wrong-first h = rw (ne-eqb (getD t 6 0) 0x52 h)
+  test-wrong e =
+      by-test (known (getD t 5 0))
+      (λ k. either (one-true _ _ e)
+      (λ e. either (one-true _ _ e)
+      (λ e. either (one-true _ _ e)
+      (λ e. either (one-true _ _ e) (λ a. tag-first (eqb-false _ _ (not-true _ a))) (λ a. tag-last (eqb-false _ _ (not-true _ a))))
+      (λ a. no-kind (not-true _ a)))
+      (λ a. strand-above (ltb-true _ _ a))) (test-strand k))
+      no-kind
 
-  module _ (x : getD t 6 0 ≡ 0x52) where
-    pub wrong-second : (getD t 7 0 ≡ 0x47 → ⊥) → true ≡ wrongMarks t
-    unfolding wrongMarks
-    wrong-second h = rw (eq-eqb (getD t 6 0) 0x52 x, ne-eqb (getD t 7 0) 0x47 h)
+  pub right-test : (Wrong t → ⊥) → wrongMarks t ≡ false
+  right-test n = by-test (wrongMarks t) (λ e. absurd (n (test-wrong e))) (λ e. e)
 
-    module _ (y : getD t 7 0 ≡ 0x47) where
-      -- behind a right tag: the strand is none of the n that the kind has
-      pub wrong-strand : (n : ℕ) → n ≡ strands (getD t 5 0) → leb n (getD t 4 0) ≡ wrongMarks t
-      unfolding wrongMarks
-      wrong-strand n e =
-          ap (λ i. leb i (getD t 4 0)) e ∙ no-strand (getD t 5 0) (getD t 4 0) ∙ rw (eq-eqb (getD t 6 0) 0x52 x, eq-eqb (getD t 7 0) 0x47 y)
+  pub test-right : wrongMarks t ≡ false → Wrong t → ⊥
+  test-right e w = true≢false (sym (wrong-test w) ∙ e)
+
+  -- where 6 is not given, the tag is right and the kind is known
+  module _ (n : Wrong t → ⊥) where
+    pub right-first : getD t 6 0 ≡ 0x52
+    right-first = by-test (eqb (getD t 6 0) 0x52) (eqb-true _ _) (λ e. absurd (n (tag-first (eqb-false _ _ e))))
+
+    pub right-last : getD t 7 0 ≡ 0x47
+    right-last = by-test (eqb (getD t 7 0) 0x47) (eqb-true _ _) (λ e. absurd (n (tag-last (eqb-false _ _ e))))
+
+    right-kind : known (getD t 5 0) ≡ true
+    right-kind = by-test (known (getD t 5 0)) (λ e. e) (λ e. absurd (n (no-kind e)))
+
+  -- behind a right tag: the strand is none of the n that the kind has
+  pub wrong-strand : getD t 6 0 ≡ 0x52 → getD t 7 0 ≡ 0x47 → (n : ℕ) → n ≡ strands (getD t 5 0) → leb n (getD t 4 0) ≡ wrongMarks t
+  unfolding wrongMarks
+  wrong-strand x y n e =
+      ap (λ i. leb i (getD t 4 0)) e ∙ no-strand (getD t 5 0) (getD t 4 0) ∙ rw (eq-eqb (getD t 6 0) 0x52 x, eq-eqb (getD t 7 0) 0x47 y)
 
 -- ---- the rules of the trailer alone
 
@@ -90,18 +136,35 @@ module _ (b : List ℕ) (at n : ℕ) (p : Pointed b at n) where
   start-is : two (take (length b - at) (drop at b)) 2 ≡ marksIn b .start
   start-is = rw (p .here, rest-is b)
 
+  pub length-letters : length (marksIn b .letters) ≡ wayBack b
+  length-letters = rw (length-take, length-drop) (omega (arith, p .back, p .reach, p .here))
+
   -- no rule before 3 holds
   from-three : foundOf b ≡ judged (rule (ltb (badIn b) (length (marksIn b .letters))) (Refused 3 (badIn b)) ∷ notMade b ∷ []) (sheetIn b)
   unfolding foundOf
   from-three =
       rw (le-ltb (length b) 8 (p .long), p .right, ne-eqb (wayBack b) 0 (omega (arith, p .back, p .some)), le-ltb most (wayBack b) (omega (arith, p .back, p .within)), le-ltb (length b - 8) (wayBack b) (omega (arith, p .back, p .reach, p .here)))
 
+  pub says-bad : badIn b < length (marksIn b .letters) → Refused 3 (badIn b) ≡ foundOf b
+  says-bad h = sym (rw (lt-ltb (badIn b) (length (marksIn b .letters)) h) at from-three)
+
+  -- none before 7 holds
+  from-seven : ltb (badIn b) (length (marksIn b .letters)) ≡ false → foundOf b ≡ judged (notMade b ∷ []) (sheetIn b)
+  from-seven t = rw t at from-three
+
+  module _ (t : ltb (badIn b) (length (marksIn b .letters)) ≡ false) where
+    pub says-unmade : isMade (marksIn b) ≡ false → Refused 7 0 ≡ foundOf b
+    says-unmade u = sym (rw u at (from-seven t))
+
+    pub says-made : isMade (marksIn b) ≡ true → sheetIn b ≡ foundOf b
+    says-made u = sym (rw u at (from-seven t))
+
   -- the letters judged as a ring: only 3 is left to give
   checked-here : checkedOf (marksIn b .kind) (marksIn b .letters) ≡ checkedAs (cond (ltb (badIn b) (length (marksIn b .letters))) (Letter (badIn b)) Taken)
   unfolding verdict
   checked-here =
-      let l : length (marksIn b .letters) ≡ wayBack b = rw (length-take, length-drop) (omega (arith, p .back, p .reach, p .here)) in
-      rw (right-marks (trailer b) (p .right) .kind, ne-eqb (length (marksIn b .letters)) 0 (omega (arith, p .back, p .some)), le-ltb most (length (marksIn b .letters)) (omega (arith, p .back, p .within)))
+      let l : length (marksIn b .letters) ≡ wayBack b = length-letters in
+      rw (right-kind (trailer b) (test-right (trailer b) (p .right)), ne-eqb (length (marksIn b .letters)) 0 (omega (arith, p .back, p .some)), le-ltb most (length (marksIn b .letters)) (omega (arith, p .back, p .within)))
 
   module _ (r : Checked) (e : r ≡ checkedOf (getD b (at + 5) 0) (take (at - (at - n)) (drop (at - n) b))) where
     checked-as : r ≡ checkedAs (cond (ltb (badIn b) (length (marksIn b .letters))) (Letter (badIn b)) Taken)
@@ -114,25 +177,24 @@ module _ (b : List ℕ) (at n : ℕ) (p : Pointed b at n) where
         (λ t. let f : r ≡ checkedAs Taken = rw t at checked-as in absurd (h (ap (λ (x : Checked). x .number) f)))
 
     module _ (z : r .number ≡ 0) (s : ℕ) (es : s ≡ two (take (length b - at) (drop at b)) 2) where
-      from-seven : foundOf b ≡ judged (notMade b ∷ []) (sheetIn b)
-      from-seven =
+      all-letters : ltb (badIn b) (length (marksIn b .letters)) ≡ false
+      all-letters =
           by-test (ltb (badIn b) (length (marksIn b .letters)))
           (λ t. let f : r ≡ checkedAs (Letter (badIn b)) = rw t at checked-as in absurd (omega (arith, ap (λ (x : Checked). x .number) f)))
-          (λ t. rw t at from-three)
+          (λ t. t)
 
       same-key : isKey (getD b (at + 5) 0) (take (at - (at - n)) (drop (at - n) b)) s (getD b (at + 4) 0) ≡ isMade (marksIn b)
       same-key =
           ap₂ (λ k w. isKey k w s (getD b (at + 4) 0)) (byte-is 5) letters-are
           ∙ ap₂ (isKey (marksIn b .kind) (marksIn b .letters)) (es ∙ start-is) (byte-is 4)
 
-      pub says-unmade : isKey (getD b (at + 5) 0) (take (at - (at - n)) (drop (at - n) b)) s (getD b (at + 4) 0) ≡ false → Refused 7 0 ≡ foundOf b
-      says-unmade t = let u : isMade (marksIn b) ≡ false = sym same-key ∙ t in sym (rw u at from-seven)
+      pub says-no-key : isKey (getD b (at + 5) 0) (take (at - (at - n)) (drop (at - n) b)) s (getD b (at + 4) 0) ≡ false → Refused 7 0 ≡ foundOf b
+      says-no-key t = says-unmade all-letters (sym same-key ∙ t)
 
       pub says-sheet : isKey (getD b (at + 5) 0) (take (at - (at - n)) (drop (at - n) b)) s (getD b (at + 4) 0) ≡ true
           → Sheet n s (getD b (at + 4) 0) (getD b (at + 5) 0) (at - n) ≡ foundOf b
       says-sheet t =
-          let u : isMade (marksIn b) ≡ true = sym same-key ∙ t in
           let f : at - n ≡ before b = omega (arith, p .back, p .here) in
           ap₂ (λ k σ. Sheet n s σ k (at - n)) (byte-is 5) (byte-is 4)
           ∙ ap₂ (λ m x. Sheet m x (marksIn b .strand) (marksIn b .kind) (at - n)) (p .back) (es ∙ start-is)
-          ∙ ap (Sheet (wayBack b) (marksIn b .start) (marksIn b .strand) (marksIn b .kind)) f ∙ sym (rw u at from-seven)
+          ∙ ap (Sheet (wayBack b) (marksIn b .start) (marksIn b .strand) (marksIn b .kind)) f ∙ says-made all-letters (sym same-key ∙ t)

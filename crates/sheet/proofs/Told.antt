@@ -2,22 +2,20 @@
 -- Assumes nothing.
 use mathlib.Core.Path.{_≡_, sym, ap, ap₂, _∙_}
 use mathlib.Core.Bool.{cond}
-use mathlib.Core.List.{List, [], _∷_}
+use mathlib.Core.List.{List}
 use Prim.Native.Nat.{ℕ, _≤_, _-_}
 use native.Mathlib.Omega.{arith}
 use lib.Dec.{ltb}
 use lib.ListN.{length, take, drop}
 use Rattle.words.proofs.Search.{by-test}
-use Rattle.ring.specs.Rule.{rule}
 use Rattle.ring.specs.Judging.{over}
 use Rattle.ring.specs.Answers.{fewer, wroteOf, wroteRoom, deposit}
-use Rattle.ring.proofs.Rules.{clear-more, refused-more}
 use Rattle.ring.proofs.Deposit.{passes-below, deposit-other, deposit-own}
 use Rattle.sheet.specs.declared.answer.Found.the-variants.{Sheet, Refused}
 use Rattle.sheet.specs.Sheet.{depositOf}
-use Rattle.sheet.specs.Trailer.{wayBack, before, marksIn, sheetRules, sheetIn, foundOf, numberOf}
+use Rattle.sheet.specs.Trailer.{wayBack, before, marksIn, sheetIn, foundOf, numberOf}
 use Rattle.sheet.specs.Reader.{partAs, partOf, restoredOf, originalOf, restoredIn, originalRoom}
-use Rattle.sheet.proofs.Accepted.{long, reach, length-letters, taken-form, taken-clear, taken-found, taken-made}
+use Rattle.sheet.proofs.Numbers.{made-test, letters-size, sheet-found, taken-sheet, restored-refused, restored-taken}
 
 -- ---- a sheet answered
 
@@ -26,9 +24,9 @@ module _ (b : List ℕ) (n s σ k bf : ℕ) (e : Sheet n s σ k bf ≡ foundOf b
   told-done = sym (ap numberOf e)
 
   told-in : Sheet n s σ k bf ≡ sheetIn b
-  told-in = e ∙ taken-found b told-done
+  told-in = let t = taken-sheet b told-done in e ∙ sym (sheet-found b (t .0) (t .1))
 
-  pub told-n : n ≡ wayBack b
+  told-n : n ≡ wayBack b
   told-n = let h = told-in in cc
 
   pub told-start : s ≡ marksIn b .start
@@ -37,14 +35,14 @@ module _ (b : List ℕ) (n s σ k bf : ℕ) (e : Sheet n s σ k bf ≡ foundOf b
   pub told-strand : σ ≡ marksIn b .strand
   told-strand = let h = told-in in cc
 
-  pub told-before : bf ≡ before b
+  told-before : bf ≡ before b
   told-before = let h = told-in in cc
 
   pub told-long : 8 ≤ length b
-  told-long = long b (taken-form b told-done)
+  told-long = taken-sheet b told-done .0 .reaches .trailed .long
 
   told-reach : wayBack b ≤ length b - 8
-  told-reach = reach b (taken-form b told-done)
+  told-reach = taken-sheet b told-done .0 .reaches .reach
 
   pub told-within : bf ≤ length b - 8
   told-within = omega (arith, told-before)
@@ -62,26 +60,26 @@ module _ (b : List ℕ) (n s σ k bf : ℕ) (e : Sheet n s σ k bf ≡ foundOf b
 
   pub told-below : s ≤ length (take (length b - 8 - bf) (drop bf b))
   told-below =
-      let h = passes-below (marksIn b .kind) (marksIn b .letters) (marksIn b .start) (marksIn b .strand) (taken-made b told-done) in
+      let h = passes-below (marksIn b .kind) (marksIn b .letters) (marksIn b .start) (marksIn b .strand) (made-test b (taken-sheet b told-done .1)) in
       omega (arith, told-start, ap length told-part)
 
 -- ---- a refusal answered
 
 module _ (b : List ℕ) (k p : ℕ) (e : Refused k p ≡ foundOf b) where
-  pub told-refused : numberOf (foundOf b) ≡ 0 → ⊥
+  told-refused : numberOf (foundOf b) ≡ 0 → ⊥
   told-refused z =
-      let h : Refused k p ≡ sheetIn b = e ∙ taken-found b z in
+      let t = taken-sheet b z in
+      let h : Refused k p ≡ sheetIn b = e ∙ sym (sheet-found b (t .0) (t .1)) in
       let y : _≡_ {A = ℕ} 0 1 = cc in omega arith
 
-  restored-refused : (size : ℕ) → restoredOf b size ≡ Refused k p
-  unfolding restoredOf foundOf
-  restored-refused size = refused-more numberOf (sheetRules b) (rule (ltb size (wayBack b)) (Refused 4 0) ∷ []) (sheetIn b) told-refused ∙ sym e
+  told-restored : (size : ℕ) → restoredOf b size ≡ Refused k p
+  told-restored size = restored-refused b size told-refused ∙ sym e
 
   pub original-refused : (size : ℕ) → record { number = k; place = p } ≡ originalOf b size
-  original-refused size = rw (restored-refused size)
+  original-refused size = rw (told-restored size)
 
   pub room-refused : (room : List ℕ) → room ≡ originalRoom b room
-  room-refused room = rw (restored-refused (length room))
+  room-refused room = rw (told-restored (length room))
 
 -- ---- the original letters
 
@@ -95,18 +93,15 @@ module _ (K : List ℕ) (s σ : ℕ) (room : List ℕ) where
 
 module _ (b : List ℕ) (z : numberOf (foundOf b) ≡ 0) (K : List ℕ) (e : K ≡ marksIn b .letters) where
   size-is : length K ≡ wayBack b
-  size-is = ap length e ∙ length-letters b (taken-form b z)
+  size-is = ap length e ∙ letters-size b (taken-sheet b z .0 .reaches)
 
-  restored-done : (size : ℕ) → restoredOf b size ≡ cond (fewer size K) (Refused 4 0) (sheetIn b)
-  unfolding restoredOf
-  restored-done size =
-      clear-more (sheetRules b) (rule (ltb size (wayBack b)) (Refused 4 0) ∷ []) (sheetIn b) (taken-clear b z)
-      ∙ ap (λ x. cond (ltb size x) (Refused 4 0) (sheetIn b)) (sym size-is)
+  restored-for : (size : ℕ) → restoredOf b size ≡ cond (fewer size K) (Refused 4 0) (sheetIn b)
+  restored-for size = restored-taken b size z ∙ ap (λ x. cond (ltb size x) (Refused 4 0) (sheetIn b)) (sym size-is)
 
   pub original-done : (size : ℕ) → wroteOf K size ≡ originalOf b size
-  original-done size = rw (restored-done size) (by-test (fewer size K) (λ t. rw t) (λ t. rw t))
+  original-done size = rw (restored-for size) (by-test (fewer size K) (λ t. rw t) (λ t. rw t))
 
   pub room-done : (s σ : ℕ) (room : List ℕ) → s ≡ marksIn b .start → σ ≡ marksIn b .strand → restoredIn K s σ room ≡ originalRoom b room
   room-done s σ room es eσ =
       let d : deposit K s σ ≡ depositOf (marksIn b) = ap (λ x. deposit x s σ) e ∙ ap₂ (deposit (marksIn b .letters)) es eσ in
-      rw (restored-done (length room), d) (by-test (fewer (length room) K) (λ t. rw t) (λ t. rw t))
+      rw (restored-for (length room), d) (by-test (fewer (length room) K) (λ t. rw t) (λ t. rw t))

@@ -22,9 +22,9 @@ use Rattle.sheet.specs.Calls.{WriteCall, OriginalCall}
 pub data Wrong (t : List ℕ) : Type 0 where
   tag-first : (getD t 6 0 ≡ 0x52 → ⊥) → Wrong t
   tag-last : (getD t 7 0 ≡ 0x47 → ⊥) → Wrong t
-  kind : known (getD t 5 0) ≡ false → Wrong t
-  strand : 1 < getD t 4 0 → Wrong t
-  feature : getD t 5 0 ≡ 0 → getD t 4 0 ≡ 1 → Wrong t
+  no-kind : known (getD t 5 0) ≡ false → Wrong t
+  strand-above : 1 < getD t 4 0 → Wrong t
+  feature-strand : getD t 5 0 ≡ 0 → getD t 4 0 ≡ 1 → Wrong t
 
 -- a trailer is there, and 6 is not given
 pub record Trailed (b : List ℕ) : Type 0 where
@@ -50,6 +50,7 @@ pub record Made (b : List ℕ) : Type 0 where
   pub permitted : Permitted kind deposit
   pub is : marksOf kind deposit ≡ marksIn b
 
+-- each number when its condition holds and none before it in the order, with its place
 pub data SheetGiven (b : List ℕ) : ℕ → ℕ → Type 0 where
   few : length b < 8 → SheetGiven b 5 0
   wrong : 8 ≤ length b → Wrong (trailer b) → SheetGiven b 6 0
@@ -64,9 +65,16 @@ pub data SheetGiven (b : List ℕ) : ℕ → ℕ → Type 0 where
 
 -- "then 4 for a room lent for the original", "original: fewer than n" (01)
 pub data OriginalGiven (b : List ℕ) (size : ℕ) : ℕ → ℕ → Type 0 where
-  refused : {k i : ℕ} → SheetGiven b k i → (k ≡ 0 → ⊥) → OriginalGiven b size k i
+  as-read : {k i : ℕ} → SheetGiven b k i → (k ≡ 0 → ⊥) → OriginalGiven b size k i
   lacking : SheetGiven b 0 0 → size < wayBack b → OriginalGiven b size 4 0
   done : SheetGiven b 0 0 → wayBack b ≤ size → OriginalGiven b size 0 0
+
+-- what `letters` hands back, beside what `read` answers on the same bytes at the place p
+pub record HandsBack (b : List ℕ) (r : Entry) (p : ℕ × ℕ) (part : List ℕ) (at : ℕ × ℕ) : Type 0 where
+  -- "A declined call hands back an empty part at the front of the lent bytes" (01)
+  pub refused : (r .marked .number ≡ 0 → ⊥) → (part ≡ []) × (at ≡ p)
+  -- "The answer gives the key as a part of the lent bytes" (01)
+  pub done : r .marked .number ≡ 0 → (part ≡ take (r .marked .n) (drop (r .before) b)) × (at ≡ (p .0, p .1 + r .before))
 
 -- each of a list is a sheet that the writer makes
 abbrev pub AllWritten : List (List ℕ) → Type 0
@@ -79,6 +87,14 @@ pub data BookGiven (b : List ℕ) : ℕ → ℕ → Type 0 where
   sheets : (ss : List (List ℕ)) → AllWritten ss → joined ss ≡ b → BookGiven b 0 0
   stops : {k i : ℕ} (front : List ℕ) (ss : List (List ℕ)) → 0 < length front → SheetGiven front k i → (k ≡ 0 → ⊥)
       → AllWritten ss → front ++ joined ss ≡ b → BookGiven b k i
+
+-- a book holds n sheets, just those and no others: "sheets joined one behind another are walked back to just those sheets" (01)
+pub record Holds (b : List ℕ) (n : ℕ) : Type 0 where
+  pub found : List (List ℕ)
+  pub written : AllWritten found
+  pub are : joined found ≡ b
+  pub counted : n ≡ length found
+  pub only : (ss : List (List ℕ)) → AllWritten ss → joined ss ≡ b → ss ≡ found
 
 -- ---- demand 2: there and back
 
@@ -96,4 +112,5 @@ pub record Accepted (b : List ℕ) (r : Entry) : Type 0 where
   pub size : length deposit ≡ r .marked .n
   pub bytes : (room : List ℕ) (m : Marked) (left : List ℕ) → WriteCall deposit (r .kind) room m left → length deposit + 8 ≤ length room
       → (m ≡ r .marked) × (take (length deposit + 8) left ≡ drop (r .before) b)
-  pub original : (room : List ℕ) (o : Checked) (left : List ℕ) → OriginalCall b room o left → length deposit ≤ length room → take (length deposit) left ≡ deposit
+  pub original : (room : List ℕ) (o : Checked) (left : List ℕ) → OriginalCall b room o left → length deposit ≤ length room
+      → (o ≡ record { number = 0; place = 0 }) × (take (length deposit) left ≡ deposit)

@@ -3,6 +3,7 @@ ghost use mathlib.Core.Path.{_≡_};
 ghost use Prim.Native.Nat.{_+_, _≤_};
 ghost use lib.ListN.{length};
 ghost use Rattle.ring.specs.Answers.{wroteOf, deposit};
+ghost use Rattle.sheet.specs.Trailer.{Bytes};
 ghost use Rattle.sheet.specs.Reader.{entryOf, partOf, originalOf, originalRoom, restoredIn};
 use super::answer::Entry;
 use super::answer::Found;
@@ -13,6 +14,7 @@ use ring::Marked;
 // The sheet's marks and kind, and how many bytes stand before it.
 pub fn read(bytes: &[u8]) -> Entry
     ensures { λ r. ⌜ r ≡ entryOf (now (bytes .entry)) ⌝ }
+    ensures lent { λ _. ⌜ Bytes (now (bytes .entry)) ⌝ }
 {
     match trailer::trailer(bytes) {
         Found::Sheet {

@@ -31,12 +31,12 @@ abbrev μ-duels : tie.MeasureT-duels
 
 -- the place behind the inner loop, and what is known there of `met`
 abbrev Scanned : Type 0
-Scanned = lts.Joined1 (facing-table-reads.Asked, facing-table-reads.Learnt, letter-reads.Asked, letter-reads.Learnt, moved-reads.Asked, moved-reads.Learnt) reads.Pre reads.Post Inv-scan μ-scan Inv-duels μ-duels
+Scanned = lts.Joined2 (facing-table-reads.Asked, facing-table-reads.Learnt, letter-reads.Asked, letter-reads.Learnt, moved-reads.Asked, moved-reads.Learnt) reads.Pre reads.Post Inv-scan μ-scan Inv-duels μ-duels
 
-met-at : (c : Scanned) → Met (c .before .before .before .before .before .before .args .ring .now) (c .before .before .before .before .before .before .args .ring .now) (c .before .before .before .duels .p) (c .before .before .before .duels .q) (c .if1 .met)
+met-at : (c : Scanned) → Met (c .before .before .before .before .before .before .args .ring .now) (c .before .before .before .before .before .before .args .ring .now) (c .before .before .before .duels .p) (c .before .before .before .duels .q) (c .if2 .met)
 met-at c =
     let i = c .before .scan .inv in
-    either (c .if1 .came) (λ w. record { within = omega (arith, w .1); agree = λ j h. i .1 j (omega (arith, w .0 .taken, w .1)); differs = λ l. absurd (omega (arith, w .1)) })
+    either (c .if2 .came) (λ w. record { within = omega (arith, w .1); agree = λ j h. i .1 j (omega (arith, w .0 .taken, w .1)); differs = λ l. absurd (omega (arith, w .1)) })
     (λ w. rw (w .6) (record { within = i .0; agree = i .1; differs = λ l e. w .5 .taken (w .2 .ensures ∙ e ∙ sym (w .4 .ensures)) }))
 
 facing-table-requires : tie.Need-facing-table-requires Inv-scan μ-scan Inv-duels μ-duels
@@ -68,16 +68,10 @@ scan-less c = search needs
 
 scan-again : tie.Need-scan-again Inv-scan μ-scan Inv-duels μ-duels
 scan-again c =
-    (search needs, below-more _ _ (c .before .before .before .before .before .before .scan .inv .1) (sym (c .before .before .before .letter .ensures) ∙ c .if2 .left ∙ c .before .letter2 .ensures))
+    (search needs, below-more _ _ (c .before .before .before .before .before .before .scan .inv .1) (sym (c .before .before .before .letter .ensures) ∙ c .if3 .left ∙ c .before .letter2 .ensures))
 
-add-t22 : tie.Need-add-t22 Inv-scan μ-scan Inv-duels μ-duels
-add-t22 c = search needs
-
-returns : tie.Need-returns Inv-scan μ-scan Inv-duels μ-duels
-returns c =
-    let m = met-at (c .before) in
-    let a = run-same _ (c .before .before .before .before .before .before .before .pre .0) _ _ _ (c .before .before .before .before .duels .inv) (c .before .before .before .duels-test .taken) (λ j h. m .agree j (omega (arith, c .if3 .taken))) in
-    (sym (ap startOf (a .ended)), a .pairs)
+add-pairs : tie.Need-add-pairs Inv-scan μ-scan Inv-duels μ-duels
+add-pairs c = search needs
 
 add-read : tie.Need-add-read Inv-scan μ-scan Inv-duels μ-duels
 add-read c = omega (arith, met-at (c .before .before) .within)
@@ -89,13 +83,13 @@ add-letter-3 : tie.Need-add-letter-3 Inv-scan μ-scan Inv-duels μ-duels
 add-letter-3 c = omega (arith, met-at (c .before .before .before) .within)
 
 letter-requires-3 : tie.Need-letter-requires-3 Inv-scan μ-scan Inv-duels μ-duels
-letter-requires-3 c κs = (search needs, omega (arith, met-at (c .before .before .before) .within, c .before .before .if3 .left))
+letter-requires-3 c κs = (search needs, omega (arith, met-at (c .before .before .before) .within, c .before .before .if4 .left))
 
 add-letter-4 : tie.Need-add-letter-4 Inv-scan μ-scan Inv-duels μ-duels
 add-letter-4 c = omega (arith, met-at (c .before .before .before .before .before) .within)
 
 letter-requires-4 : tie.Need-letter-requires-4 Inv-scan μ-scan Inv-duels μ-duels
-letter-requires-4 c κs = (search needs, omega (arith, met-at (c .before .before .before .before .before) .within, c .before .before .before .before .if3 .left))
+letter-requires-4 c κs = (search needs, omega (arith, met-at (c .before .before .before .before .before) .within, c .before .before .before .before .if4 .left))
 
 moved-requires : tie.Need-moved-requires Inv-scan μ-scan Inv-duels μ-duels
 moved-requires c κs = (omega arith, omega arith, omega (arith, met-at (c .before .before .before .before .before .before) .within))
@@ -107,14 +101,14 @@ Stepped = lts.After-moved (facing-table-reads.Asked, facing-table-reads.Learnt, 
 abbrev Next : Stepped → Type 0
 Next c =
     let d = c .before .before .before .before .before .before .before .before .before .before .duels in
-    Run (c .before .before .before .before .before .before .before .before .before .before .before .before .before .args .ring .now) (c .moved .result .p) (c .moved .result .q) (d .read + (c .before .before .before .before .before .before .before .if1 .met + 1))
+    Run (c .before .before .before .before .before .before .before .before .before .before .before .before .before .args .ring .now) (c .moved .result .p) (c .moved .result .q) (d .read + (c .before .before .before .before .before .before .before .if2 .met + 1))
     × (d .p + d .q < c .moved .result .p + c .moved .result .q)
 
 next-at : (c : Stepped) → Next c
 next-at c =
     let m = met-at (c .before .before .before .before .before .before .before) in
     run-moved _ (c .before .before .before .before .before .before .before .before .before .before .before .before .before .pre .0) _ _ _ (c .before .before .before .before .before .before .before .before .before .before .duels .inv)
-    (c .before .before .before .before .before .before .before .before .before .duels-test .taken) _ (omega (arith, m .within, c .before .before .before .before .before .before .if3 .left)) m _ _ _ _
+    (c .before .before .before .before .before .before .before .before .before .if1 .left) _ (omega (arith, m .within, c .before .before .before .before .before .before .if4 .left)) m _ _ _ _
     (c .before .before .before .letter3 .ensures) (c .before .letter4 .ensures) (c .moved .ensures)
 
 duels-less : tie.Need-duels-less Inv-scan μ-scan Inv-duels μ-duels
@@ -123,9 +117,15 @@ duels-less c = omega (arith, next-at c .1)
 duels-again : tie.Need-duels-again Inv-scan μ-scan Inv-duels μ-duels
 duels-again c = next-at c .0
 
+returns : tie.Need-returns Inv-scan μ-scan Inv-duels μ-duels
+returns c =
+    let a = run-out _ (c .before .before .before .before .pre .0) _ _ _ (c .before .duels .inv) (c .if1 .taken) in
+    (sym (ap startOf (a .ended)), a .pairs)
+
 returns-2 : tie.Need-returns-2 Inv-scan μ-scan Inv-duels μ-duels
 returns-2 c =
-    let a = run-out _ (c .before .before .before .before .pre .0) _ _ _ (c .before .duels .inv) (c .duels-test .left) in
+    let m = met-at (c .before) in
+    let a = run-same _ (c .before .before .before .before .before .before .before .pre .0) _ _ _ (c .before .before .before .before .duels .inv) (c .before .before .before .if1 .left) (λ j h. m .agree j (omega (arith, c .if4 .taken))) in
     (sym (ap startOf (a .ended)), a .pairs)
 
 pub fight-spec : {M : Type 1} → statement M
@@ -146,8 +146,7 @@ fight-spec =
     add-k
     scan-less
     scan-again
-    add-t22
-    returns
+    add-pairs
     add-read
     add-read-2
     add-letter-3
@@ -157,4 +156,5 @@ fight-spec =
     moved-requires
     duels-less
     duels-again
+    returns
     returns-2)

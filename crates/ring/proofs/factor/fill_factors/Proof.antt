@@ -30,7 +30,11 @@ first-factor-requires : tie.Need-first-factor-requires Inv-loop μ-loop
 first-factor-requires c κs = (search needs, c .before .before .loop .inv .1 .scan (search needs))
 
 cast-table : tie.Need-cast-table Inv-loop μ-loop
-cast-table c = (let h = c .before .before .before .loop .inv .1 .within in search needs)
+cast-table c =
+    let k = c .before .before .before .loop .inv .1 in
+    let h = k .within in
+    let b = best-below _ _ _ (search needs) (k .lowest) in
+    search needs
 
 mul-table : tie.Need-mul-table Inv-loop μ-loop
 mul-table c = search needs

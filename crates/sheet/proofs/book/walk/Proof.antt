@@ -44,10 +44,11 @@ enum-known-number c = search needs
 
 returns : tie.Need-returns Inv-loop μ-loop
 returns c =
-    walking-refused (c .before .before .before .before .before .before .before .before .args .book .now) _ _ (c .before .before .before .before .before .before .loop .inv) (c .before .before .before .before .before .loop-test .taken) _ _ (sym (c .before .number .given .1) ∙ c .before .before .before .trailer .ensures)
+    (walking-refused (c .before .before .before .before .before .before .before .before .args .book .now) _ _ (c .before .before .before .before .before .before .loop .inv) (c .before .before .before .before .before .loop-test .taken) _ _ (sym (c .before .number .given .1) ∙ c .before .before .before .trailer .ensures), λ i. omega (arith, c .before .before .before .before .before .before .before .shared-slice-known .given i))
 
 returns-2 : tie.Need-returns-2 Inv-loop μ-loop
-returns-2 c = walking-last (c .before .before .before .args .book .now) _ _ (c .before .loop .inv) (omega arith)
+returns-2 c =
+    (walking-last (c .before .before .before .args .book .now) _ _ (c .before .loop .inv) (omega arith), λ i. omega (arith, c .before .before .shared-slice-known .given i))
 
 pub walk-spec : {M : Type 1} → statement M
 walk-spec =

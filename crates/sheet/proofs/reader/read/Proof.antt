@@ -1,6 +1,7 @@
--- `sheet::reader::read` meets its contract. The enum taken apart is the entry.
+-- `sheet::reader::read` meets its contract. The enum taken apart is the entry; what is lent are bytes.
 -- Assumes nothing.
 use mathlib.Core.Path.{sym, ap, _∙_}
+use native.Mathlib.Omega.{arith}
 use Rattle.sheet.specs.Reader.{entryAs}
 use borrow.Author.Needs.{needs}
 use Rattle.sheet.proofs.reader.read.Statement.{statement}
@@ -16,10 +17,12 @@ enum-known-number : tie.Need-enum-known-number
 enum-known-number c = search needs
 
 returns : tie.Need-returns
-returns c = ap entryAs (sym (c .before .n .given .1) ∙ c .before .before .before .trailer .ensures)
+returns c =
+    (ap entryAs (sym (c .before .n .given .1) ∙ c .before .before .before .trailer .ensures), λ i. omega (arith, c .before .before .before .before .shared-slice-known .given i))
 
 returns-2 : tie.Need-returns-2
-returns-2 c = ap entryAs (sym (c .before .number .given .1) ∙ c .before .before .before .trailer .ensures)
+returns-2 c =
+    (ap entryAs (sym (c .before .number .given .1) ∙ c .before .before .before .trailer .ensures), λ i. omega (arith, c .before .before .before .before .shared-slice-known .given i))
 
 pub read-spec : {M : Type 1} → statement M
 read-spec = tie.close (tie.spec trailer-requires enum-known-n enum-known-number returns returns-2)

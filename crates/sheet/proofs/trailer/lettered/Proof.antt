@@ -2,7 +2,7 @@
 -- Assumes nothing.
 use mathlib.Core.Path.{sym, _∙_}
 use borrow.Author.Tests.{not-true, not-false}
-use Rattle.sheet.proofs.Replies.{says-letter, says-unmade, says-sheet}
+use Rattle.sheet.proofs.Replies.{says-letter, says-no-key, says-sheet}
 use borrow.Author.Needs.{needs}
 use Rattle.sheet.proofs.trailer.lettered.Statement.{statement}
 use Rattle.sheet.proofs.trailer.lettered.Tie as tie
@@ -57,7 +57,7 @@ is-key-requires c κs = search needs
 returns-2 : tie.Need-returns-2
 returns-2 c =
     let s = c .before .before .before .before .before .before .before .before .before .before .before in
-    says-unmade (s .args .bytes .now) (s .args .at) (s .args .n) (s .pre) (c .before .before .before .before .before .before .before .check .result) (c .before .before .before .before .before .before .before .check .ensures) (c .before .before .before .before .before .if1 .left)
+    says-no-key (s .args .bytes .now) (s .args .at) (s .args .n) (s .pre) (c .before .before .before .before .before .before .before .check .result) (c .before .before .before .before .before .before .before .check .ensures) (c .before .before .before .before .before .if1 .left)
     (c .before .before .before .pair .result) (c .before .before .before .pair .ensures) (sym (c .before .is-key .ensures) ∙ not-true _ (c .if2 .taken))
 
 returns-3 : tie.Need-returns-3

@@ -1,6 +1,8 @@
 -- `sheet::trailer::wrong` meets its contract. Each answer is the test of number 6 at that place.
 -- Assumes nothing.
-use Rattle.sheet.proofs.Replies.{wrong-first, wrong-second, wrong-strand}
+use mathlib.Core.Path.{sym}
+use Rattle.sheet.specs.Demands.{tag-first, tag-last}
+use Rattle.sheet.proofs.Replies.{wrong-test, wrong-strand}
 use borrow.Author.Needs.{needs}
 use Rattle.sheet.proofs.trailer.wrong.Statement.{statement}
 use Rattle.sheet.proofs.trailer.wrong.Tie as tie
@@ -9,13 +11,13 @@ shared-slice-read-if1 : tie.Need-shared-slice-read-if1
 shared-slice-read-if1 c = search needs
 
 returns : tie.Need-returns
-returns c = wrong-first (c .before .before .before .args .t .now) (c .if1 .taken)
+returns c = sym (wrong-test (c .before .before .before .args .t .now) (tag-first (c .if1 .taken)))
 
 shared-slice-read-if2 : tie.Need-shared-slice-read-if2
 shared-slice-read-if2 c = search needs
 
 returns-2 : tie.Need-returns-2
-returns-2 c = wrong-second (c .before .before .before .before .before .args .t .now) (c .before .before .if1 .left) (c .if2 .taken)
+returns-2 c = sym (wrong-test (c .before .before .before .before .before .args .t .now) (tag-last (c .if2 .taken)))
 
 shared-slice-read-strands-of : tie.Need-shared-slice-read-strands-of
 shared-slice-read-strands-of c = search needs

@@ -1,0 +1,96 @@
+-- What 01's table makes of a call: of one that answers by a verdict, by what is found, or by where a walk ends.
+-- Assumes nothing.
+use mathlib.Core.Path.{_≡_, refl, sym, ap, _∙_}
+use mathlib.Core.Logic.{_↔_}
+use mathlib.Core.Bool.{true}
+use mathlib.Core.List.{List, [], _∷_}
+use Prim.Native.Nat.{ℕ, _≤_, _<_, _+_}
+use native.Mathlib.Omega.{arith}
+use borrow.Author.Tests.{ltb-false}
+use lib.Dec.{ltb}
+use lib.ListN.{length}
+use Rattle.ring.specs.declared.judge.Verdict.the-variants.{Taken}
+use Rattle.ring.specs.Judging.{Given, numberOf, placeOf, taken}
+use Rattle.ring.specs.Demands.{AsRuled, lent}
+use Rattle.ring.proofs.Exactly.{taken-is, taken-permitted}
+use Rattle.ring.proofs.Compared.{length-key}
+use Rattle.ring.proofs.Deposit.{deposit-back}
+use Rattle.ring.proofs.Numbers.{ruled, too-few, left-alone, written-beyond}
+use Rattle.sheet.specs.declared.answer.Found.{Found}
+use Rattle.sheet.specs.declared.answer.Found.the-variants.{Sheet, Refused}
+use Rattle.sheet.specs.Sheet.{Marks, sheetOf, depositOf, writeVerdict, writtenOf, writtenRoom}
+use Rattle.sheet.specs.Trailer.{wayBack, marksIn, foundOf}
+use Rattle.sheet.specs.Trailer as at-end
+use Rattle.sheet.specs.Reader.{entryAs, entryOf, partAs, restoredOf, originalOf, roomAs, originalRoom}
+use Rattle.sheet.specs.Book.{Walk, through, stopped, walkedAs}
+use Rattle.sheet.specs.Demands.{Reaches, Made, SheetGiven, OriginalGiven, HandsBack}
+use Rattle.sheet.proofs.Numbers.{letters-size, sheet-exactly, original-exactly, restored-sheet}
+use Rattle.sheet.proofs.Rounds.{size-written}
+
+-- ---- the writer
+
+module _ (kind : ℕ) (w room : List ℕ) where
+  -- done, it has written n + 8 bytes, and they were there
+  done-size : taken (writeVerdict kind w (length room)) ≡ true
+      → (writtenOf kind w (length room) .n + 8 ≡ length (sheetOf kind w)) × (writtenOf kind w (length room) .n + 8 ≤ length room)
+  done-size t =
+      let p = taken-permitted kind w (ltb (length room) (length w + 8)) (taken-is _ t) in
+      rw t (sym (size-written kind w (p .0)), ltb-false (length room) (length w + 8) (p .1))
+
+  pub written-ruled : AsRuled (Given kind w (length room < length w + 8)) (writtenOf kind w (length room) .number) (writtenOf kind w (length room) .place)
+      (writtenOf kind w (length room) .n ∷ writtenOf kind w (length room) .start ∷ writtenOf kind w (length room) .strand ∷ [])
+      (lent room (writtenRoom kind w room) (writtenOf kind w (length room) .n + 8) ∷ [])
+  written-ruled =
+      ruled kind w (ltb (length room) (length w + 8)) (too-few (length room) (length w + 8)) _ _
+      (λ t. ((rw t, (rw t, (rw t, tt))), (left-alone (writeVerdict kind w (length room)) (sheetOf kind w) room t, tt)))
+      (λ t. (written-beyond (writeVerdict kind w (length room)) (sheetOf kind w) room _ (done-size t .0) (done-size t .1) t, tt))
+
+-- ---- by what is found
+
+-- an entry: refused, every other field is 0
+entry-as : (Table : ℕ → ℕ → Type 0) (f : Found) → ((k i : ℕ) → ((at-end.numberOf f ≡ k) × (at-end.placeOf f ≡ i)) ↔ Table k i)
+    → AsRuled Table (entryAs f .marked .number) (entryAs f .marked .place)
+    (entryAs f .marked .n ∷ entryAs f .marked .start ∷ entryAs f .marked .strand ∷ entryAs f .kind ∷ entryAs f .before ∷ []) []
+entry-as Table (Sheet n start strand kind before) x = record { exactly = x; refused = λ h. absurd (h refl); beyond = λ e. tt }
+entry-as Table (Refused number place) x = record { exactly = x; refused = λ h. ((refl, (refl, (refl, (refl, (refl, tt))))), tt); beyond = λ e. tt }
+
+pub entry-ruled : (b : List ℕ) → AsRuled (SheetGiven b) (entryOf b .marked .number) (entryOf b .marked .place)
+    (entryOf b .marked .n ∷ entryOf b .marked .start ∷ entryOf b .marked .strand ∷ entryOf b .kind ∷ entryOf b .before ∷ []) []
+entry-ruled b = entry-as (SheetGiven b) (foundOf b) (sheet-exactly b)
+
+pub entry-number : (f : Found) → entryAs f .marked .number ≡ at-end.numberOf f
+entry-number (Sheet n start strand kind before) = refl
+entry-number (Refused number place) = refl
+
+-- the part beside the entry
+pub part-handed : (b : List ℕ) (f : Found) (p at : ℕ × ℕ) → at .0 ≡ p .0 → at .1 ≡ p .1 + entryAs f .before → HandsBack b (entryAs f) p (partAs b f) at
+part-handed b (Sheet n start strand kind before) p at e g = record { refused = λ h. absurd (h refl); done = λ z. (refl, λ i. (e i, g i)) }
+part-handed b (Refused number place) p at e g =
+    let h : at .1 ≡ p .1 = omega arith in record { refused = λ n. (refl, λ i. (e i, h i)); done = λ z. (refl, λ i. (e i, g i)) }
+
+-- a room: written from its front, or left alone
+room-as : (Table : ℕ → ℕ → Type 0) (f : Found) → ((k i : ℕ) → ((at-end.numberOf f ≡ k) × (at-end.placeOf f ≡ i)) ↔ Table k i)
+    → (new old : List ℕ) (n : ℕ) → (at-end.numberOf f ≡ 0 → (n ≡ length new) × (n ≤ length old))
+    → AsRuled Table (at-end.numberOf f) (at-end.placeOf f) [] (lent old (roomAs f new old) n ∷ [])
+room-as Table (Sheet m start strand kind before) x new old n h =
+    record { exactly = x; refused = λ z. absurd (z refl); beyond = λ e. (written-beyond Taken new old n (h refl .0) (h refl .1) refl, tt) }
+room-as Table (Refused number place) x new old n h = record { exactly = x; refused = λ z. (tt, (refl, tt)); beyond = λ e. ((refl, refl), tt) }
+
+-- the deposit has as many letters as the sheet
+deposit-size : (b : List ℕ) → Reaches b → Made b → wayBack b ≡ length (depositOf (marksIn b))
+deposit-size b r m =
+    let d : depositOf (marksIn b) ≡ m .deposit = ap depositOf (sym (m .is)) ∙ deposit-back (m .kind) (m .deposit) (m .permitted) in
+    omega (arith, letters-size b r, ap (λ (x : Marks). length (x .letters)) (m .is), length-key (m .kind) (m .deposit) (m .permitted .some), ap length d)
+
+pub restored-ruled : (b room : List ℕ) → AsRuled (OriginalGiven b (length room)) (originalOf b (length room) .number) (originalOf b (length room) .place) []
+    (lent room (originalRoom b room) (wayBack b) ∷ [])
+restored-ruled b room =
+    room-as (OriginalGiven b (length room)) (restoredOf b (length room)) (original-exactly b (length room)) (depositOf (marksIn b)) room (wayBack b)
+    (λ z. let s = restored-sheet b (length room) z in (deposit-size b (s .0 .0 .reaches) (s .0 .1), s .1))
+
+-- ---- by where a walk ends
+
+pub walk-as : (Table : ℕ → ℕ → Type 0) (v : Walk) → ((k i : ℕ) → ((walkedAs v .number ≡ k) × (walkedAs v .place ≡ i)) ↔ Table k i)
+    → AsRuled Table (walkedAs v .number) (walkedAs v .place) (walkedAs v .sheets ∷ []) []
+walk-as Table (through ss) x = record { exactly = x; refused = λ n. absurd (n refl); beyond = λ e. tt }
+walk-as Table (stopped number place) x = record { exactly = x; refused = λ n. ((refl, tt), tt); beyond = λ e. tt }

@@ -1,0 +1,166 @@
+//! The calls on rings, each on a ring and on what stands near it.
+use crate::cases::{self, Numbers};
+use crate::comparison::Comparison;
+use crate::facts::{self, Facts};
+use crate::keys::{self, Key};
+use crate::rules::{self, MOST};
+use crate::{report, words};
+use std::collections::HashSet;
+
+/// All that the calls say of a ring that is taken.
+fn known(kind: u8, ring: &[u8]) -> Option<(Facts, Key)> {
+    rules::judge(kind, ring, false).is_ok().then(|| (facts::of(ring), keys::key(kind, ring)))
+}
+
+/// From this length on every ring is reported on too.
+const LONG: usize = 1000;
+
+/// Every call on one ring that is lent enough.
+pub fn ring(c: &mut Comparison, kind: u8, ring: &[u8], numbers: &mut Numbers) {
+    let n = ring.len();
+    let known = known(kind, ring);
+    let (facts, key) = (known.as_ref().map(|k| &k.0), known.as_ref().map(|k| &k.1));
+    let more = numbers.below(4);
+    c.check(kind, ring);
+    c.tables(kind, ring, n + more, facts);
+    c.alone(kind, ring, facts, key);
+    c.rooms(kind, ring, n + more, if kind == 0 { numbers.below(n + 2) } else { n + numbers.below(3) }, key);
+    c.reading(ring, numbers.below(3) as u8, numbers.below(n + 3), n + more);
+    pairs(c, kind, ring, numbers);
+    if let Some((facts, key)) = &known {
+        judged_as_key(c, kind, ring, facts, key);
+        if kind == 1 && n >= LONG {
+            c.report(ring, &report::lines(facts, key));
+        }
+    }
+}
+
+/// A ring compared with itself turned, on either strand, and with one letter changed.
+fn pairs(c: &mut Comparison, kind: u8, ring: &[u8], numbers: &mut Numbers) {
+    let n = ring.len();
+    let turned = words::reading(ring, numbers.below(n.max(1)) % n.max(1));
+    c.compare(kind, ring, &turned);
+    c.compare(kind, ring, &words::opposite(&turned));
+    let mut other = turned;
+    if n > 0 {
+        let at = numbers.below(n);
+        other[at] = b"ACGT"[numbers.below(4)];
+    }
+    c.compare(kind, &other, ring);
+}
+
+/// The key's letters with marks that made them and marks that did not, and the ring itself as a key.
+fn judged_as_key(c: &mut Comparison, kind: u8, ring: &[u8], facts: &Facts, key: &Key) {
+    let n = ring.len();
+    for strand in 0..3 {
+        for start in [key.start, key.start + 1, facts.repeat, 0, n, n + 1] {
+            let want = strand < 2 && keys::is_key(kind, &key.letters, start, strand);
+            c.is_key(kind, &key.letters, start, strand, want);
+        }
+    }
+    let want = keys::is_key(kind, ring, 0, 0);
+    c.is_key(kind, ring, 0, 0, want);
+}
+
+/// Tables and rooms of every size about n.
+pub fn sizes(c: &mut Comparison, kind: u8, ring: &[u8]) {
+    let n = ring.len();
+    let known = known(kind, ring);
+    let (facts, key) = (known.as_ref().map(|k| &k.0), known.as_ref().map(|k| &k.1));
+    let about = [0, n.saturating_sub(2), n.saturating_sub(1), n, n + 1, n + 9];
+    for size in about {
+        c.tables(kind, ring, size, facts);
+        for second in about {
+            c.rooms(kind, ring, size, second, key);
+        }
+        for strand in [0, 1, 2, 255] {
+            for start in [0, 1, n.saturating_sub(1), n, n + 1, usize::MAX] {
+                c.reading(ring, strand, start, size);
+            }
+        }
+    }
+}
+
+/// Whether some ring made each key, start and strand: all rings of n letters are tried.
+pub fn every_key(c: &mut Comparison, alphabet: &[u8], longest: usize) {
+    for kind in [0, 1] {
+        let mut made = HashSet::new();
+        cases::every(alphabet, longest, |ring| {
+            let key = keys::key(kind, ring);
+            made.insert((key.letters, key.start, key.strand));
+        });
+        cases::every(alphabet, longest, |letters| {
+            for start in 0..=letters.len() + 1 {
+                for strand in 0..3 {
+                    let want = made.contains(&(letters.to_vec(), start, strand));
+                    c.is_key(kind, letters, start, strand, want);
+                }
+            }
+        });
+    }
+}
+
+/// Rings that are refused and rings about the limit, with a wrong letter and without.
+fn refusable() -> Vec<Vec<u8>> {
+    let short: [&[u8]; 8] = [b"", b"A", b"N", b"GANA", b"GATTACA", b"acgt", b"ACGT\n", &[0; 3]];
+    let mut rings: Vec<Vec<u8>> = short.map(<[u8]>::to_vec).to_vec();
+    for n in [MOST - 1, MOST, MOST + 1, MOST + 2, 20_000] {
+        for bad in [None, Some(0), Some(n - 1), Some(n / 2)] {
+            let mut ring = cases::over(b"GATTACA", n);
+            if let Some(at) = bad {
+                ring[at] = b'N';
+            }
+            rings.push(ring);
+        }
+    }
+    rings
+}
+
+/// Every refusal, and rings that meet several: the first in the order decides.
+pub fn refusals(c: &mut Comparison) {
+    for kind in 0..=255 {
+        c.strands_of(kind);
+    }
+    let rings = refusable();
+    for kind in [0, 1, 2, 3, 127, 128, 255] {
+        for ring in &rings {
+            refusal(c, kind, ring);
+            for other in &rings {
+                c.compare(kind, ring, other);
+            }
+        }
+    }
+    // each byte as the one wrong letter of a base ring
+    for byte in 0..=255 {
+        for at in 0..3 {
+            let mut ring = b"GAT".to_vec();
+            ring[at] = byte;
+            c.check(1, &ring);
+            c.compare(1, b"GAT", &ring);
+            c.compare(1, &ring, b"GAN");
+        }
+    }
+}
+
+/// One ring with tables and rooms that are long enough and that are not.
+fn refusal(c: &mut Comparison, kind: u8, ring: &[u8]) {
+    let n = ring.len();
+    let known = known(kind, ring);
+    let (facts, key) = (known.as_ref().map(|k| &k.0), known.as_ref().map(|k| &k.1));
+    c.check(kind, ring);
+    c.alone(kind, ring, facts, key);
+    for size in [0, n, n + 7, n + 8, n + 9] {
+        c.sheet_write(kind, ring, size, key);
+    }
+    for size in [0, n.saturating_sub(1), n, n + 1] {
+        c.tables(kind, ring, size, facts);
+        for second in [0, n.saturating_sub(1), n, n + 1] {
+            c.rooms(kind, ring, size, second, key);
+        }
+        c.reading(ring, kind, n / 2, size);
+    }
+    for strand in [0, 1, 2] {
+        let want = known.is_some() && strand < 2 && keys::is_key(kind, ring, 0, strand);
+        c.is_key(kind, ring, 0, strand, want);
+    }
+}

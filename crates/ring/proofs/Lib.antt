@@ -3,7 +3,6 @@ pub mod Judging
 pub mod Facings
 pub mod Laid
 pub mod Replies
-pub mod Spacing
 pub mod Routing
 pub mod Exactly
 pub mod Numbers
@@ -11,6 +10,7 @@ pub mod Determined
 pub mod Contracts
 pub mod Permits
 pub mod Equal
+pub mod OnStrand
 pub mod Written
 pub mod Marks
 pub mod Keyed

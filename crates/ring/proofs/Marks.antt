@@ -1,12 +1,12 @@
--- The key's marks from the starts of the strands, and the part of each room.
+-- The key's marks from the starts of the strands, and letters against their opposite strand.
 -- Assumes nothing.
 use mathlib.Core.Path.{_≡_, ap, _∙_}
 use mathlib.Core.Bool.{Bool, true, false, cond, not}
 use mathlib.Core.List.{List}
 use Prim.Native.Nat.{ℕ, _<_}
-use lib.ListN.{length, take, drop}
+use native.Mathlib.Omega.{arith}
+use lib.ListN.{length}
 use borrow.Author.Tests.{eq-eqb, ne-eqb}
-use lib.Seq.{take-at}
 use Rattle.words.specs.Order.{before}
 use Rattle.words.specs.Kind.{stranded}
 use Rattle.words.specs.Ring.{reading, start, lowest}
@@ -19,7 +19,7 @@ use Rattle.ring.specs.declared.judge.Verdict.{Verdict}
 use Rattle.ring.specs.declared.judge.Verdict.the-variants.{Taken}
 use Rattle.ring.specs.declared.answer.Marked.{Marked}
 use Rattle.ring.specs.declared.marking.Strands.{Strands}
-use Rattle.ring.specs.Judging.{taken, over}
+use Rattle.ring.specs.Judging.{taken}
 use Rattle.ring.specs.Strands.{strandsOf, markedOn, refusedBy, leftTo}
 use Rattle.ring.specs.Answers.{markedAs}
 
@@ -27,22 +27,16 @@ use Rattle.ring.specs.Answers.{markedAs}
 pub found-within : (w : List ℕ) (b : ℕ) → b ≡ start w → 0 < length w → b < length w
 found-within w b e h = rw e (start-is w h .within)
 
--- ---- the opposite strand in a room of its own
-
-module _ (w old room : List ℕ) (e : room ≡ over (opposite w) old) where
-  pub in-room : take (length w) room ≡ opposite w
-  in-room = ap (take (length w)) e ∙ take-at (opposite w) (drop (length (opposite w)) old) (length w) (length-opposite w)
-
-  pub in-room-length : length (take (length w) room) ≡ length w
-  in-room-length = ap length in-room ∙ length-opposite w
+pub found-opposite : (w : List ℕ) (b : ℕ) → b ≡ start (opposite w) → 0 < length w → b < length w
+found-opposite w b e h = let n = length-opposite w in omega (arith, found-within (opposite w) b e (omega arith))
 
 -- ---- the starts of both strands
 
-module _ (w other : List ℕ) (a b : ℕ) (o : other ≡ opposite w) (x : a ≡ start w) (y : b ≡ start other) where
+module _ (w : List ℕ) (a b : ℕ) (x : a ≡ start w) (y : b ≡ start (opposite w)) where
   -- the strand by the comparison of the two lowest readings
-  pub strands-by : (t : Bool) (s : ℕ) → t ≡ before (reading other b) (reading w a) → s ≡ cond t 1 0 → _≡_ {A = Strands} (record { own = a; other = b; strand = s }) (strandsOf w)
+  pub strands-by : (t : Bool) (s : ℕ) → t ≡ before (reading (opposite w) b) (reading w a) → s ≡ cond t 1 0 → _≡_ {A = Strands} (record { own = a; other = b; strand = s }) (strandsOf w)
   unfolding lowest
-  strands-by t s e f = rw (f, e, x, y, o)
+  strands-by t s e f = rw (f, e, x, y)
 
 -- ---- the marks
 
@@ -61,11 +55,11 @@ module _ (kind : ℕ) (w : List ℕ) where
 
 -- ---- letters against their opposite strand
 
-module _ (w other : List ℕ) (b s : ℕ) (o : other ≡ opposite w) (y : b ≡ start other) (t : Bool) where
-  pub left-other : s ≡ 1 → t ≡ before (reading w 0) (reading other b) → t ≡ leftTo w s
+module _ (w : List ℕ) (b s : ℕ) (y : b ≡ start (opposite w)) (t : Bool) where
+  pub left-other : s ≡ 1 → t ≡ before (reading w 0) (reading (opposite w) b) → t ≡ leftTo w s
   unfolding lowest
-  left-other q e = e ∙ rw (y, o, reading-zero w, eq-eqb s 1 q)
+  left-other q e = e ∙ rw (y, reading-zero w, eq-eqb s 1 q)
 
-  pub left-own : (s ≡ 1 → ⊥) → t ≡ before (reading other b) (reading w 0) → not t ≡ leftTo w s
+  pub left-own : (s ≡ 1 → ⊥) → t ≡ before (reading (opposite w) b) (reading w 0) → not t ≡ leftTo w s
   unfolding lowest
-  left-own q e = ap not e ∙ rw (y, o, reading-zero w, ne-eqb s 1 q)
+  left-own q e = ap not e ∙ rw (y, reading-zero w, ne-eqb s 1 q)

@@ -1,18 +1,18 @@
 -- A reading written to a room: from n on it is the ring as it stands, and what the call answers by its tests.
 -- Assumes nothing.
-use mathlib.Core.Path.{_≡_, refl, _∙_}
+use mathlib.Core.Path.{_≡_, _∙_}
 use mathlib.Core.Bool.{cond}
 use mathlib.Core.List.{List}
 use Prim.Native.Nat.{ℕ, _≤_, _<_}
 use native.Mathlib.Omega.{arith}
-use borrow.Author.Tests.{eq-eqb, ne-eqb, lt-ltb, le-ltb, ltb-true, ltb-false}
+use borrow.Author.Tests.{lt-ltb, le-ltb, ltb-true, ltb-false}
 use lib.Dec.{ltb}
 use lib.ListN.{length, drop-of-length-le}
 use lib.Seq.{take-all, take-length, drop-length}
 use Rattle.words.specs.Ring.{reading}
-use Rattle.words.specs.Strand.{opposite}
+use Rattle.words.specs.Strand.{onStrand}
 use Rattle.words.proofs.Search.{by-test}
-use Rattle.words.proofs.Strand.{length-opposite}
+use Rattle.words.proofs.Strand.{length-strand}
 use Rattle.ring.specs.declared.answer.Checked.{Checked}
 use Rattle.ring.specs.Judging.{over}
 use Rattle.ring.specs.Answers.{wroteOf, wroteRoom}
@@ -37,10 +37,6 @@ module _ (w room : List ℕ) (s at : ℕ) where
   wrote-short h = (rw (lt-ltb (length room) (length w) h), rw (lt-ltb (length room) (length w) h))
 
   module _ (h : length w ≤ length room) (r : ℕ) (e : r ≡ upTo (length w) at) (new : List ℕ) where
-    pub wrote-opposite : s ≡ 1 → new ≡ over (reading (opposite w) r) room → (_≡_ {A = Checked} (record { number = 0; place = 0 }) (wroteOf w (length room))) × (new ≡ wroteRoom w s at room)
-    wrote-opposite q f =
-        (rw (le-ltb (length room) (length w) h), f ∙ rw (le-ltb (length room) (length w) h, eq-eqb s 1 q, e, reading-upto (opposite w) (length w) at (length-opposite w)))
-
-    pub wrote-own : (s ≡ 1 → ⊥) → new ≡ over (reading w r) room → (_≡_ {A = Checked} (record { number = 0; place = 0 }) (wroteOf w (length room))) × (new ≡ wroteRoom w s at room)
-    wrote-own q f =
-        (rw (le-ltb (length room) (length w) h), f ∙ rw (le-ltb (length room) (length w) h, ne-eqb s 1 q, e, reading-upto w (length w) at refl))
+    pub wrote-done : new ≡ over (reading (onStrand s w) r) room → (_≡_ {A = Checked} (record { number = 0; place = 0 }) (wroteOf w (length room))) × (new ≡ wroteRoom w s at room)
+    wrote-done f =
+        (rw (le-ltb (length room) (length w) h), f ∙ rw (le-ltb (length room) (length w) h, e, reading-upto (onStrand s w) (length w) at (length-strand s w)))

@@ -6,6 +6,7 @@ pub mod Answers
 pub mod Calls
 pub mod Demands
 -- What only the contracts of inner functions cite
-pub mod Spaced
+pub mod Behind
 pub mod Facings
+pub mod OnStrand
 pub mod Strands

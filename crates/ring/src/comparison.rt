@@ -1,13 +1,12 @@
 // The comparison of two rings of one kind.
 ghost use mathlib.Core.Path.{_≡_};
-ghost use Prim.Native.Nat.{_<_, _≤_};
+ghost use Prim.Native.Nat.{_<_};
 ghost use lib.ListN.{length};
-ghost use Rattle.words.specs.Ring.{start, reading, lowest};
+ghost use Rattle.words.specs.Ring.{reading, lowest};
 ghost use Rattle.words.specs.Strand.{opposite};
 ghost use Rattle.ring.specs.Answers.{equal, sameKey, comparedOf};
-ghost use Rattle.ring.specs.Judging.{most};
 use super::answer::Compared;
-use super::judge::MOST;
+use super::facing::facing_table;
 use super::judge::Verdict;
 use super::judge::has_strands;
 use super::judge::judge;
@@ -15,32 +14,29 @@ use super::judge::number_of;
 use super::judge::place_of;
 use super::reading::same_reading;
 use super::start::start_of;
-use super::strand::copy_opposite;
 
 // Whether the lowest reading of the first ring's opposite strand is the reading at `at` of the second.
 fn same_opposite(first: &[u8], second: &[u8], at: usize) -> bool
-    requires { ⌜ (0 < length (now first)) × (length (now first) ≤ most) × (length (now first) ≡ length (now second)) × (at < length (now second)) ⌝ }
+    requires { ⌜ (0 < length (now first)) × (length (now first) ≡ length (now second)) × (at < length (now second)) ⌝ }
     ensures { λ r. ⌜ r ≡ equal (lowest (opposite (now (first .entry)))) (reading (now (second .entry)) at) ⌝ }
 {
-    let n = first.len();
-    let mut room = [0u8; MOST];
-    copy_opposite(first, &mut room);
-    let other = &room[..n];
-    let c = start_of(other);
-    same_reading(other, c, second, at)
+    let facing = facing_table();
+    let c = start_of(&facing, first, 1);
+    same_reading(&facing, first, 1, c, second, 0, at)
 }
 
 // Whether two permitted rings have one key: the lowest readings agree, or those of the first's opposite strand and the second.
 fn same_key(kind: u8, first: &[u8], second: &[u8]) -> bool
-    requires { ⌜ (0 < length (now first)) × (length (now first) ≤ most) × (0 < length (now second)) ⌝ }
+    requires { ⌜ (0 < length (now first)) × (0 < length (now second)) ⌝ }
     ensures { λ r. ⌜ r ≡ sameKey kind (now (first .entry)) (now (second .entry)) ⌝ }
 {
     if first.len() != second.len() {
         return false;
     }
-    let a = start_of(first);
-    let b = start_of(second);
-    if same_reading(first, a, second, b) {
+    let facing = facing_table();
+    let a = start_of(&facing, first, 0);
+    let b = start_of(&facing, second, 0);
+    if same_reading(&facing, first, 0, a, second, 0, b) {
         return true;
     }
     if has_strands(kind) {

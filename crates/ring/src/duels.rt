@@ -6,6 +6,7 @@ ghost use Rattle.words.specs.Duel.{duels, startOf, pairs, movedP, movedQ};
 ghost use Rattle.ring.specs.Answers.{foughtOf};
 ghost use Rattle.ring.specs.Judging.{most};
 use super::answer::Fought;
+use super::facing::facing_table;
 use super::judge::Verdict;
 use super::judge::judge;
 use super::judge::number_of;
@@ -48,38 +49,36 @@ fn fight(ring: &[u8]) -> Ended
     requires { ⌜ (0 < length (now ring)) × (length (now ring) ≤ most) ⌝ }
     ensures { λ r. ⌜ (r .start ≡ startOf (duels (now (ring .entry)))) × (r .pairs ≡ pairs (now (ring .entry))) ⌝ }
 {
+    let facing = facing_table();
     let n = ring.len();
     let mut p: usize = 0;
     let mut q: usize = 1;
     let mut read: usize = 0;
-    'duels: while q < n {
+    let pairs = 'duels: loop {
+        if n <= q {
+            break 'duels read;
+        }
         let mut k: usize = 0;
         let met = 'scan: loop {
             if k == n {
                 break 'scan n;
             }
-            if letter(ring, p + k) != letter(ring, q + k) {
+            if letter(&facing, ring, 0, p + k) != letter(&facing, ring, 0, q + k) {
                 break 'scan k;
             }
             k += 1;
         };
         if met == n {
-            return Ended {
-                start: p,
-                pairs: read + n,
-            };
+            break 'duels read + n;
         }
         read += met + 1;
-        let a = letter(ring, p + met);
-        let b = letter(ring, q + met);
+        let a = letter(&facing, ring, 0, p + met);
+        let b = letter(&facing, ring, 0, q + met);
         let next = moved(p, q, met, a, b);
         p = next.p;
         q = next.q;
-    }
-    Ended {
-        start: p,
-        pairs: read,
-    }
+    };
+    Ended { start: p, pairs }
 }
 
 // The start by duels, lent no table, and the pairs read.

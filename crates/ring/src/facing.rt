@@ -4,7 +4,7 @@ ghost use Rattle.words.specs.Kind as facings;
 ghost use Rattle.ring.specs.Facings.{facingTable};
 
 // The letter opposite to each byte: A and T exchanged, C and G exchanged, every other byte itself.
-pub const FACING: [u8; 256] = [
+const FACING: [u8; 256] = [
     0,
     1,
     2,
@@ -262,6 +262,13 @@ pub const FACING: [u8; 256] = [
     254,
     255,
 ];
+
+// The table laid out, once before a loop: a constant that is indexed in a loop is laid out anew for every letter.
+pub fn facing_table() -> [u8; 256]
+    ensures { λ r. ⌜ r ≡ facingTable ⌝ }
+{
+    FACING
+}
 
 // The opposite letter, looked up in the table.
 pub fn look_up(table: &[u8; 256], a: u8) -> u8

@@ -1,18 +1,61 @@
-// The factor route: the first factor, the factor table run by run, and the start among the runs' heads.
+// The factor route: the first factor of a slice, the factor table factor by factor, and the start among the runs' heads.
 ghost use mathlib.Core.Path.{_≡_};
-ghost use Prim.Native.Nat.{_+_, _*_, _<_, _≤_};
+ghost use mathlib.Core.Bool.{cond};
+ghost use Prim.Native.Nat.{_<_, _≤_};
 ghost use lib.ListN.{length};
+ghost use Rattle.words.specs.Block.{Scan, FirstFactor};
 ghost use Rattle.words.specs.Factor.{FirstRun, factorTable};
-ghost use Rattle.words.specs.Ring.{start};
+ghost use Rattle.words.specs.Least.{better};
+ghost use Rattle.words.specs.Ring.{start, reading};
+ghost use Rattle.words.specs.Strand.{onStrand};
 ghost use Rattle.ring.specs.Judging.{most, over};
-ghost use Rattle.ring.specs.Spaced.{spaced};
+ghost use Rattle.ring.specs.Facings.{facingTable};
+ghost use Rattle.ring.specs.Behind.{behindOf};
 ghost use Rattle.ring.specs.Answers.{factoredOf, factoredTable};
 use super::answer::Factored;
+use super::facing::facing_table;
 use super::judge::Verdict;
 use super::judge::judge;
 use super::judge::number_of;
 use super::judge::place_of;
 use super::reading::lower_of;
+use super::strand::place;
+use super::strand::shown;
+
+// A first factor: its length, how many letters its scan has read, and where the letter stands that was expected next.
+pub struct Factor {
+    pub size: usize,
+    pub read: usize,
+    pub back: usize,
+}
+
+// The longest Lyndon word that is a prefix of a strand. The scan goes on from what is read of the slice already: `read` letters,
+// and the one at `back` is expected next. Letters are the same on either strand alike, so only two that differ are looked up.
+pub fn first_factor(facing: &[u8; 256], s: &[u8], strand: u8, read: usize, back: usize) -> Factor
+    requires { ⌜ (now facing ≡ facingTable) × Scan (onStrand strand (now s)) read back ⌝ }
+    ensures { λ r. ⌜ FirstFactor (onStrand strand (now (s .entry))) (r .size) (r .read) (r .back) ⌝ }
+{
+    let mut j: usize = read;
+    let mut k: usize = back;
+    while j < s.len() {
+        let a = s[place(strand, s.len(), j)];
+        let b = s[place(strand, s.len(), k)];
+        if a == b {
+            k += 1;
+        } else {
+            if shown(facing, strand, a) < shown(facing, strand, b) {
+                break;
+            }
+            k = 0;
+        }
+        j += 1;
+    }
+    Factor {
+        size: j - k,
+        read: j,
+        back: k,
+    }
+}
 
 // How long the first factor is, and where the run of factors equal to it ends.
 pub struct Run {
@@ -20,43 +63,55 @@ pub struct Run {
     pub end: usize,
 }
 
-// The longest Lyndon word that is a prefix, in one scan of the letters.
-pub fn first_factor(s: &[u8]) -> Run
-    requires { ⌜ 0 < length (now s) ⌝ }
-    ensures { λ r. ⌜ FirstRun (now (s .entry)) (r .size) (r .end) ⌝ }
+// The first run of equal factors of a strand, in one scan of the letters.
+pub fn first_run(facing: &[u8; 256], s: &[u8], strand: u8) -> Run
+    requires { ⌜ (now facing ≡ facingTable) × (0 < length (now s)) ⌝ }
+    ensures { λ r. ⌜ FirstRun (onStrand strand (now (s .entry))) (r .size) (r .end) ⌝ }
 {
-    let mut j: usize = 1;
-    let mut k: usize = 0;
-    while j < s.len() {
-        if s[j] < s[k] {
-            break;
-        }
-        if s[k] < s[j] {
-            k = 0;
-        } else {
-            k += 1;
-        }
-        j += 1;
-    }
-    let p = j - k;
+    let f = first_factor(facing, s, strand, 1, 0);
+    let size = f.size;
+    let read = f.read;
     Run {
-        size: p,
-        end: j - j % p,
+        size,
+        end: read - read % size,
     }
 }
 
-// Writes `times` positions, the first of them `from` and each `size` behind the one before, to the table's front.
-fn write_run(table: &mut [u16], from: usize, size: usize, times: usize)
-    requires { ⌜ (times ≤ length (now table)) × (from + times * size ≤ most) × (0 < size) ⌝ }
-    ensures { λ _. ⌜ now (table .exit) ≡ over (spaced times from size) (now (table .entry)) ⌝ }
+// What is read of the slice behind a factor, and whether a run of equal factors begins there.
+pub struct Behind {
+    pub read: usize,
+    pub back: usize,
+    pub head: bool,
+}
+
+// Where the factor's word stands behind it again, the scan has read that far already; else the next search begins anew.
+fn read_behind(size: usize, read: usize, back: usize) -> Behind
+    requires { ⌜ size ≤ read ⌝ }
+    ensures { λ r. ⌜ r ≡ behindOf size read back ⌝ }
 {
-    let mut at = from;
-    let mut i = 0;
-    while i < times {
-        table[i] = at as u16;
-        at += size;
-        i += 1;
+    if back < size {
+        return Behind {
+            read: 1,
+            back: 0,
+            head: true,
+        };
     }
+    Behind {
+        read: read - size,
+        back: back - size,
+        head: false,
+    }
+}
+
+// The one of two positions whose reading is lower, where a run begins at the first: the start is never inside a run.
+fn best_of(facing: &[u8; 256], ring: &[u8], head: bool, from: usize, best: usize) -> usize
+    requires { ⌜ (now facing ≡ facingTable) × (from < length (now ring)) × (best < length (now ring)) ⌝ }
+    ensures { λ r. ⌜ r ≡ cond head (better (reading (now (ring .entry))) from best) best ⌝ }
+{
+    if head {
+        return lower_of(facing, ring, 0, from, best);
+    }
+    best
 }
 
 // How many factors a ring has, and its start.
@@ -65,27 +120,33 @@ struct Route {
     start: usize,
 }
 
-// Fills the factor table: of each run of equal factors all positions, and the slice behind the run is searched next. Of the
-// runs' heads the one whose reading is lowest is kept, the first if several are equal.
+// Fills the factor table: each factor is found on the slice from the last one's end. Of the runs' heads the one whose reading is
+// lowest is kept, the first if several are equal.
 fn fill_factors(ring: &[u8], table: &mut [u16]) -> Route
     requires { ⌜ (0 < length (now ring)) × (length (now ring) ≤ most) × (length (now ring) ≤ length (now table)) ⌝ }
     ensures { λ r. ⌜ (r .count ≡ length (factorTable (now (ring .entry)))) × (r .start ≡ start (now (ring .entry))) ⌝ }
     ensures { λ _. ⌜ now (table .exit) ≡ over (factorTable (now (ring .entry))) (now (table .entry)) ⌝ }
 {
+    let facing = facing_table();
     let mut rest = ring;
     let mut from: usize = 0;
     let mut count: usize = 0;
     let mut best: usize = 0;
+    let mut read: usize = 1;
+    let mut back: usize = 0;
+    let mut head = true;
     while 0 < rest.len() {
-        let run = first_factor(rest);
-        let size = run.size;
-        let end = run.end;
-        let times = end / size;
-        write_run(&mut table[count..], from, size, times);
-        count += times;
-        best = lower_of(ring, from, best);
-        from += end;
-        rest = &rest[end..];
+        let f = first_factor(&facing, rest, 0, read, back);
+        let size = f.size;
+        table[count] = from as u16;
+        count += 1;
+        best = best_of(&facing, ring, head, from, best);
+        from += size;
+        rest = &rest[size..];
+        let next = read_behind(size, f.read, f.back);
+        read = next.read;
+        back = next.back;
+        head = next.head;
     }
     Route { count, start: best }
 }

@@ -6,13 +6,13 @@ ghost use lib.ListN.{length};
 ghost use Rattle.words.specs.Kind.{stranded};
 ghost use Rattle.ring.specs.Answers.{keyedOf, firstRoom, secondRoom, keyPart, inSecond};
 use super::answer::Marked;
+use super::facing::facing_table;
 use super::judge::Verdict;
 use super::judge::has_strands;
 use super::judge::judge;
 use super::marking::chosen;
 use super::marking::read_strands;
 use super::marking::refused;
-use super::reading::put_opposite;
 use super::reading::put_reading;
 use super::start::start_of;
 
@@ -43,12 +43,13 @@ pub fn write_key(ring: &[u8], kind: u8, first: &mut [u8], second: &mut [u8]) -> 
     };
     if has_strands(kind) {
         let s = read_strands(ring);
-        put_reading(ring, s.own, first);
-        put_opposite(ring, s.other, second);
+        put_reading(ring, 0, s.own, first);
+        put_reading(ring, 1, s.other, second);
         return chosen(s, n);
     }
-    let a = start_of(ring);
-    put_reading(ring, a, first);
+    let facing = facing_table();
+    let a = start_of(&facing, ring, 0);
+    put_reading(ring, 0, a, first);
     Marked {
         number: 0,
         place: 0,

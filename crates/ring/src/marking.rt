@@ -1,12 +1,11 @@
 // The key's marks: both strands of a ring read, and the strand that holds the key.
 ghost use mathlib.Core.Path.{_≡_};
-ghost use Prim.Native.Nat.{_<_, _≤_};
+ghost use Prim.Native.Nat.{_<_};
 ghost use lib.ListN.{length};
 ghost use Rattle.ring.specs.Strands.{strandsOf, markedOn, refusedBy};
 ghost use Rattle.ring.specs.Answers.{markedOf};
-ghost use Rattle.ring.specs.Judging.{most};
 use super::answer::Marked;
-use super::judge::MOST;
+use super::facing::facing_table;
 use super::judge::Verdict;
 use super::judge::has_strands;
 use super::judge::judge;
@@ -14,7 +13,6 @@ use super::judge::number_of;
 use super::judge::place_of;
 use super::reading::lower;
 use super::start::start_of;
-use super::strand::copy_opposite;
 
 // A base ring: the start as given, the start of the opposite strand, and the strand that holds the key.
 pub struct Strands {
@@ -25,16 +23,13 @@ pub struct Strands {
 
 // Both strands read; on a tie the key is on strand 0.
 pub fn read_strands(ring: &[u8]) -> Strands
-    requires { ⌜ (0 < length (now ring)) × (length (now ring) ≤ most) ⌝ }
+    requires { ⌜ 0 < length (now ring) ⌝ }
     ensures { λ r. ⌜ r ≡ strandsOf (now (ring .entry)) ⌝ }
 {
-    let n = ring.len();
-    let mut room = [0u8; MOST];
-    copy_opposite(ring, &mut room);
-    let other = &room[..n];
-    let a = start_of(ring);
-    let b = start_of(other);
-    if lower(other, b, ring, a) {
+    let facing = facing_table();
+    let a = start_of(&facing, ring, 0);
+    let b = start_of(&facing, ring, 1);
+    if lower(&facing, ring, 1, b, ring, 0, a) {
         return Strands {
             own: a,
             other: b,
@@ -95,11 +90,12 @@ pub fn mark(ring: &[u8], kind: u8) -> Marked
     if has_strands(kind) {
         return chosen(read_strands(ring), n);
     }
+    let facing = facing_table();
     Marked {
         number: 0,
         place: 0,
         n: n,
-        start: start_of(ring),
+        start: start_of(&facing, ring, 0),
         strand: 0,
     }
 }

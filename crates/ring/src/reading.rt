@@ -1,4 +1,4 @@
-// Readings of a ring: a letter round it, two readings compared, and a reading written.
+// Readings of a ring on a strand: a letter round it, two readings compared, and a reading written.
 ghost use mathlib.Core.Path.{_≡_};
 ghost use mathlib.Core.Bool.{cond};
 ghost use Prim.Native.Nat.{_+_, _<_, _≤_};
@@ -8,30 +8,38 @@ ghost use Rattle.words.specs.Ring.{around, reading};
 ghost use Rattle.words.specs.Paired.{Met};
 ghost use Rattle.words.specs.Least.{better};
 ghost use Rattle.words.specs.Order.{before};
-ghost use Rattle.words.specs.Strand.{opposite};
+ghost use Rattle.words.specs.Strand.{onStrand};
+ghost use Rattle.ring.specs.Facings.{facingTable};
 ghost use Rattle.ring.specs.Judging.{over};
 ghost use Rattle.ring.specs.Answers.{equal, wroteOf, wroteRoom};
 use super::answer::Checked;
+use super::facing::facing_table;
+use super::strand::back_of;
 use super::strand::copy;
-use super::strand::copy_opposite;
+use super::strand::front_of;
+use super::strand::letter_at;
 
-// The letter at position `i` round the ring.
-pub fn letter(s: &[u8], i: usize) -> u8
-    requires { ⌜ i < length (now s) + length (now s) ⌝ }
-    ensures { λ r. ⌜ r ≡ around (now (s .entry)) i ⌝ }
+// The letter at position `i` round the ring, on a strand.
+pub fn letter(facing: &[u8; 256], s: &[u8], strand: u8, i: usize) -> u8
+    requires { ⌜ (now facing ≡ facingTable) × (i < length (now s) + length (now s)) ⌝ }
+    ensures { λ r. ⌜ r ≡ around (onStrand strand (now (s .entry))) i ⌝ }
 {
-    if i < s.len() { s[i] } else { s[i - s.len()] }
+    if i < s.len() {
+        return letter_at(facing, s, strand, i);
+    }
+    letter_at(facing, s, strand, i - s.len())
 }
 
-// How many letters agree, of the reading at `i` of `u` and of that at `j` of `v`, a ring as long, before two differ.
-fn meet(u: &[u8], i: usize, v: &[u8], j: usize) -> usize
-    requires { ⌜ (i < length (now u)) × (j < length (now v)) × (length (now u) ≡ length (now v)) ⌝ }
-    ensures { λ r. ⌜ Met (now (u .entry)) (now (v .entry)) i j r ⌝ }
+// How many letters agree, of the reading at `i` of `u` on strand `x` and of that at `j` of `v`, a ring as long, on strand `y`,
+// before two differ.
+fn meet(facing: &[u8; 256], u: &[u8], x: u8, i: usize, v: &[u8], y: u8, j: usize) -> usize
+    requires { ⌜ (now facing ≡ facingTable) × (i < length (now u)) × (j < length (now v)) × (length (now u) ≡ length (now v)) ⌝ }
+    ensures { λ r. ⌜ Met (onStrand x (now (u .entry))) (onStrand y (now (v .entry))) i j r × (r ≤ length (now (u .entry))) ⌝ }
 {
     let n = u.len();
     let mut k: usize = 0;
     while k < n {
-        if letter(u, i + k) != letter(v, j + k) {
+        if letter(facing, u, x, i + k) != letter(facing, v, y, j + k) {
             break;
         }
         k += 1;
@@ -39,58 +47,57 @@ fn meet(u: &[u8], i: usize, v: &[u8], j: usize) -> usize
     k
 }
 
-// Whether the reading at `i` of `u` comes before the reading at `j` of `v`, a ring as long.
-pub fn lower(u: &[u8], i: usize, v: &[u8], j: usize) -> bool
-    requires { ⌜ (i < length (now u)) × (j < length (now v)) × (length (now u) ≡ length (now v)) ⌝ }
-    ensures { λ r. ⌜ r ≡ before (reading (now (u .entry)) i) (reading (now (v .entry)) j) ⌝ }
+// Whether the reading at `i` of `u` on strand `x` comes before the reading at `j` of `v`, a ring as long, on strand `y`.
+pub fn lower(facing: &[u8; 256], u: &[u8], x: u8, i: usize, v: &[u8], y: u8, j: usize) -> bool
+    requires { ⌜ (now facing ≡ facingTable) × (i < length (now u)) × (j < length (now v)) × (length (now u) ≡ length (now v)) ⌝ }
+    ensures { λ r. ⌜ r ≡ before (reading (onStrand x (now (u .entry))) i) (reading (onStrand y (now (v .entry))) j) ⌝ }
 {
-    let k = meet(u, i, v, j);
+    let k = meet(facing, u, x, i, v, y, j);
     if k == u.len() {
         return false;
     }
-    letter(u, i + k) < letter(v, j + k)
+    letter(facing, u, x, i + k) < letter(facing, v, y, j + k)
 }
 
-// Of two positions of a ring the one whose reading is lower, the second if they are equal.
-pub fn lower_of(ring: &[u8], c: usize, b: usize) -> usize
-    requires { ⌜ (c < length (now ring)) × (b < length (now ring)) ⌝ }
-    ensures { λ r. ⌜ r ≡ better (reading (now (ring .entry))) c b ⌝ }
+// Of two positions of a strand the one whose reading is lower, the second if they are equal.
+pub fn lower_of(facing: &[u8; 256], ring: &[u8], strand: u8, c: usize, b: usize) -> usize
+    requires { ⌜ (now facing ≡ facingTable) × (c < length (now ring)) × (b < length (now ring)) ⌝ }
+    ensures { λ r. ⌜ r ≡ better (reading (onStrand strand (now (ring .entry)))) c b ⌝ }
 {
     if c == b {
         return b;
     }
-    if lower(ring, c, ring, b) {
+    if lower(facing, ring, strand, c, ring, strand, b) {
         return c;
     }
     b
 }
 
-// Whether the reading at `i` of `u` is the reading at `j` of `v`, a ring as long.
-pub fn same_reading(u: &[u8], i: usize, v: &[u8], j: usize) -> bool
-    requires { ⌜ (i < length (now u)) × (j < length (now v)) × (length (now u) ≡ length (now v)) ⌝ }
-    ensures { λ r. ⌜ r ≡ equal (reading (now (u .entry)) i) (reading (now (v .entry)) j) ⌝ }
+// Whether the reading at `i` of `u` on strand `x` is the reading at `j` of `v`, a ring as long, on strand `y`.
+pub fn same_reading(
+    facing: &[u8; 256],
+    u: &[u8],
+    x: u8,
+    i: usize,
+    v: &[u8],
+    y: u8,
+    j: usize,
+) -> bool
+    requires { ⌜ (now facing ≡ facingTable) × (i < length (now u)) × (j < length (now v)) × (length (now u) ≡ length (now v)) ⌝ }
+    ensures { λ r. ⌜ r ≡ equal (reading (onStrand x (now (u .entry))) i) (reading (onStrand y (now (v .entry))) j) ⌝ }
 {
-    meet(u, i, v, j) == u.len()
+    meet(facing, u, x, i, v, y, j) == u.len()
 }
 
-// Writes the reading at `at` to the front of a room, as two straight runs.
-pub fn put_reading(w: &[u8], at: usize, room: &mut [u8])
+// Writes the reading at `at` of a strand to the front of a room, as two straight runs.
+pub fn put_reading(w: &[u8], strand: u8, at: usize, room: &mut [u8])
     requires { ⌜ (at ≤ length (now w)) × (length (now w) ≤ length (now room)) ⌝ }
-    ensures { λ _. ⌜ now (room .exit) ≡ over (reading (now (w .entry)) at) (now (room .entry)) ⌝ }
+    ensures { λ _. ⌜ now (room .exit) ≡ over (reading (onStrand strand (now (w .entry))) at) (now (room .entry)) ⌝ }
 {
+    let facing = facing_table();
     let rest = w.len() - at;
-    copy(&w[at..], room);
-    copy(&w[..at], &mut room[rest..]);
-}
-
-// Writes the reading at `at` of the opposite strand to the front of a room, as two straight runs.
-pub fn put_opposite(w: &[u8], at: usize, room: &mut [u8])
-    requires { ⌜ (at ≤ length (now w)) × (length (now w) ≤ length (now room)) ⌝ }
-    ensures { λ _. ⌜ now (room .exit) ≡ over (reading (opposite (now (w .entry))) at) (now (room .entry)) ⌝ }
-{
-    let rest = w.len() - at;
-    copy_opposite(&w[..rest], room);
-    copy_opposite(&w[rest..], &mut room[rest..]);
+    copy(&facing, back_of(w, strand, at), strand, room);
+    copy(&facing, front_of(w, strand, at), strand, &mut room[rest..]);
 }
 
 // A position, or the length for one beyond it: from there on a reading is the ring as it stands.
@@ -116,11 +123,7 @@ pub fn write_reading(letters: &[u8], strand: u8, start: usize, room: &mut [u8]) 
         };
     }
     let at = up_to(start, n);
-    if strand == 1 {
-        put_opposite(letters, at, room);
-    } else {
-        put_reading(letters, at, room);
-    }
+    put_reading(letters, strand, at, room);
     Checked {
         number: 0,
         place: 0,

@@ -11,7 +11,8 @@ ghost use Rattle.ring.specs.Answers.{filledOf, startsTable};
 ghost use Rattle.words.specs.Mark.{Flagged, unmark, Judged, Outside, Fresh, Marking, Marked, Done};
 ghost use Rattle.ring.specs.Judging.{most};
 use super::answer::Checked;
-use super::factor::first_factor;
+use super::facing::facing_table;
+use super::factor::first_run;
 use super::judge::Verdict;
 use super::judge::judge;
 use super::judge::said;
@@ -28,10 +29,11 @@ fn flag_heads(w: &[u8], t: &mut [u16])
     requires { ⌜ (length (now w) ≤ most) × (length (now w) ≤ length (now t)) × MatchTable (now w) (now t) ⌝ }
     ensures { λ _. ⌜ Flagged most (now (w .entry)) (now (t .exit)) (length (now (w .entry))) × Kept (length (now (w .entry))) (now (t .entry)) (now (t .exit)) ⌝ }
 {
+    let facing = facing_table();
     let mut m: usize = 0;
     while m < w.len() {
         t[m] = t[m] + HEAD;
-        let run = first_factor(&w[m..]);
+        let run = first_run(&facing, &w[m..], 0);
         m += run.end;
     }
 }

@@ -18,11 +18,8 @@ use Rattle.words.proofs.Factor.{run-split, run-word, run-within}
 use Rattle.words.proofs.Lyndon.{word-below, from-in}
 use Rattle.words.proofs.Prefix.{leastSuffix-is}
 use Rattle.words.proofs.Over.{expected}
-use Rattle.words.proofs.Scan.{Scan}
+use Rattle.words.proofs.Scan.{Scan, drop-take}
 use Rattle.words.proofs.Suffix.{suffix-is}
-
-pub drop-take : (m k : ℕ) (w : List ℕ) → m ≤ length w → drop m (take (m + k) w) ≡ take k (drop m w)
-drop-take m k w h = rw take-add (drop-at (take m w) (take k (drop m w)) m (length-take-le m w h))
 
 -- ---- heads: no suffix of a longer prefix that begins before m is least
 

@@ -149,6 +149,21 @@ factors-are w = record {
   falling = falling-of w (factors w) (factors-below w);
 }
 
+-- ---- the first factor, and then the factors of the rest
+
+divide-enough : (k : ℕ) (w : List ℕ) → length w ≤ k → divide k w ≡ factors w
+divide-enough k w h =
+    let e : flat (factors w) ≡ w = factors-are w .whole in
+    ap (divide k) (sym e) ∙ divide-is (factors w) k (factors-are w .falling) (omega (arith, ap length e))
+
+-- "The rest of the letters, from where that factor ends, is factored next" (01)
+pub factors-first : (w : List ℕ) → 0 < length w → factors w ≡ take (longest w) w ∷ factors (drop (longest w) w)
+unfolding factors
+factors-first [] h = absurd (omega arith)
+factors-first (a ∷ w) h =
+    ap (λ fs. take (longest (a ∷ w)) (a ∷ w) ∷ fs)
+    (divide-enough (length w) (drop (longest (a ∷ w)) (a ∷ w)) (rest-fits (longest (a ∷ w)) (length w) (a ∷ w) (longest-fits a w .0) (omega arith)))
+
 -- ---- a run of equal factors
 
 pub length-copies : (e : ℕ) (u : List ℕ) → length (flat (copies e u)) ≡ e * length u

@@ -110,21 +110,41 @@ pub data Best (w : List ℕ) (m b : ℕ) : Type 0 where
 pub best-none : (w : List ℕ) → Best w 0 0
 best-none w = either (eq-or-lt-of-le {n = 0} {m = start w} (omega arith)) is (λ l. under l (omega arith))
 
+-- from m on e letters are passed, in which the start can stand at m alone: its reading is compared with the best
+pub best-step : (w : List ℕ) (m e b : ℕ) → m < length w → (m < start w → m + e ≤ start w) → Best w m b → Best w (m + e) (better (reading w) m b)
+best-step w m e b h f (is q) = is (better-old (reading w) m b (rw q (start-is w (omega arith) .lowest m h)) ∙ q)
+best-step w m e b h f (under q l) =
+    let i = start-is w (omega arith) in
+    either (eq-or-lt-of-le l) (λ d. is (better-new (reading w) m b (rw d (least-strict (reading w) (length w) (start w) b i q)) ∙ d))
+    (λ d. under (better-either (λ k. k < start w) (reading w) m b d q) (f d))
+
 module _ (w : List ℕ) (m p e : ℕ) (r : FirstRun (drop m w) p e) where
   run-skip : 0 < length w → m < start w → m + e ≤ start w
   run-skip h l = rw (r .ends) at (skip w (start w) (start-is w h) (r .count) m (take p (drop m w)) (drop e (drop m w)) (run-split _ p e r) (run-word _ p e r) l)
 
   -- the run from m on is passed
   pub best-next : (b : ℕ) → m < length w → Best w m b → Best w (m + e) (better (reading w) m b)
-  best-next b h (is q) = is (better-old (reading w) m b (rw q (start-is w (omega arith) .lowest m h)) ∙ q)
-  best-next b h (under q l) =
-      let i = start-is w (omega arith) in
-      either (eq-or-lt-of-le l) (λ d. is (better-new (reading w) m b (rw d (least-strict (reading w) (length w) (start w) b i q)) ∙ d))
-      (λ d. under (better-either (λ k. k < start w) (reading w) m b d q) (run-skip (omega arith) d))
+  best-next b h k = best-step w m e b h (run-skip (omega arith)) k
 
   -- the best so far stays where the run's head reads no lower
   pub best-old : (b : ℕ) → m < length w → Best w m b → before (reading w m) (reading w b) ≡ false → Best w (m + e) b
   best-old b h k t = rw t at (best-next b h k)
+
+-- ---- the same, factor by factor: a Lyndon word f stands at m
+
+module _ (w : List ℕ) (m b : ℕ) (f r : List ℕ) (e : drop m w ≡ f ++ r) (y : Lyndon f) where
+  factor-past : m < length w → m < start w → m + length f ≤ start w
+  factor-past h l = past w (start w) (start-is w (omega arith)) f r m e y l
+
+  -- the factor is the first of its run
+  pub best-factor : m < length w → Best w m b → Best w (m + length f) (better (reading w) m b)
+  best-factor h k = best-step w m (length f) b h (factor-past h) k
+
+  -- the factor before it is the same word: the start does not stand here
+  pub best-again : (a : List ℕ) → w ≡ a ++ (f ++ (f ++ r)) → length a + length f ≡ m → m < length w → Best w m b → Best w (m + length f) b
+  best-again a x n h (is q) = is q
+  best-again a x n h (under q l) =
+      under q (either (eq-or-lt-of-le l) (λ d. absurd (not-second w (start w) (start-is w (omega arith)) a f r x (y .some) (n ∙ d))) (factor-past h))
 
 pub best-last : (w : List ℕ) (b : ℕ) → 0 < length w → Best w (length w) b → b ≡ start w
 best-last w b h (is q) = q

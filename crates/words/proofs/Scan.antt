@@ -9,11 +9,11 @@ use native.Mathlib.Omega.{arith}
 use native.Mathlib.Numerals.{add-one}
 use native.Mathlib.Nat.{mod-eq-of-lt, mul-add-mod-self-right}
 use lib.ListN.{length, take, drop, getD, length-append, length-drop, take-append-drop}
-use lib.Seq.{take-take, take-suc, drop-cons, getD-at, getD-take, length-take-le, drop-append-seam}
+use lib.Seq.{take-take, take-add, take-suc, drop-cons, drop-at, getD-at, getD-take, getD-drop, length-take-le, drop-append-seam}
 use Rattle.words.specs.Order.{_≪_}
 use Rattle.words.specs.Lyndon.{Lyndon}
 use Rattle.words.specs.Factor.{flat, copies, FirstRun}
-pub use Rattle.words.specs.Block.{Scan}
+pub use Rattle.words.specs.Block.{Scan, FirstFactor}
 use Rattle.words.proofs.Lyndon.{lyndon-is}
 use Rattle.words.proofs.Factor.{run-factors, run-longest, length-copies}
 use Rattle.words.proofs.Over.{Over, part, again, greater, equal, expected, Rest, lesser}
@@ -118,3 +118,79 @@ scan-one s j k i a b =
     let x = scan-end (take j s) j k (scan-take s j j k (omega arith) (a .inside) a) (λ l. absurd (omega arith)) .first in
     let y = scan-end (take j s) j i (scan-take s j j i (omega arith) (b .inside) b) (λ l. absurd (omega arith)) .first in
     omega (arith, a .order, b .order)
+
+-- ---- what a scan has read of the slice behind the first factor
+
+over-less : (u x : List ℕ) (b : ℕ) → Over u x b → length u ≤ length x → Over u (drop (length u) x) b
+over-less u x b (part s e) h = absurd (omega (arith, simp length-append at (ap length e)))
+over-less u w b (again {v} o) h = rw drop-append-seam o
+
+pub drop-take : (m k : ℕ) (w : List ℕ) → m ≤ length w → drop m (take (m + k) w) ≡ take k (drop m w)
+drop-take m k w h = rw take-add (drop-at (take m w) (take k (drop m w)) m (length-take-le m w h))
+
+-- where the letter expected stands behind the first factor, that word stands there again, and the slice behind the factor is read so far
+module _ (s : List ℕ) (p k : ℕ) (a : Scan s (k + p) k) (h : p ≤ k) where
+  size-read : k + p - k ≡ p
+  size-read = omega arith
+
+  abbrev u : List ℕ
+  u = take p s
+
+  length-u : length u ≡ p
+  length-u = length-take-le p s (omega (arith, a .inside))
+
+  whole : p + (k - p) ≡ k
+  whole = omega arith
+
+  same-read : take k (drop p s) ≡ take k s
+  same-read =
+      let c : p + k ≡ k + p = omega arith in
+      let m : take (k + p) s ≡ u ++ take k s = rw size-read at (a .made) in
+      sym (drop-take p k s (omega (arith, a .inside))) ∙ ap (λ i. drop p (take i s)) c ∙ ap (drop p) m ∙ drop-at u (take k s) p length-u
+
+  pub word-again : take p (drop p s) ≡ take p s
+  word-again = sym (take-take p k (drop p s) h) ∙ ap (take p) same-read ∙ take-take p k s h
+
+  pub scan-behind : Scan (drop p s) k (k - p)
+  scan-behind =
+      let i : k + p ≤ length s = a .inside in
+      let v : take (k - p) (drop p s) ≡ drop p (take k s) = sym (rw whole at (drop-take p (k - p) s (omega arith))) in
+      let w : take (k - p) (drop p (drop p s)) ≡ take (k - p) (drop p s) = sym (rw whole at (drop-take p (k - p) (drop p s) (rw length-drop (omega arith)))) ∙ ap (drop p) same-read ∙ sym v in
+      let q : k - (k - p) ≡ p = omega arith in
+      let x : Over u (take k s) (getD s k 0) = rw size-read at (a .over) in
+      let y : Over u (drop p (take k s)) (getD s k 0) = rw length-u at (over-less u (take k s) (getD s k 0) x (rw (length-u, length-take-le k s (omega arith)) h)) in
+      record {
+        order = omega (arith, a .order);
+        inside = rw length-drop (omega arith);
+        word = rw (q, word-again) (rw size-read at (a .word));
+        over = rw (q, word-again, v, getD-drop, whole) y;
+        made = ap (λ i. take i (drop p s)) (sym whole) ∙ take-add p (k - p) (drop p s) ∙ rw (q, w);
+      }
+
+-- ---- the first factor, by its scan
+
+module _ (s : List ℕ) (p j k : ℕ) (f : FirstFactor s p j k) where
+  length-factor : j - k ≡ p
+  length-factor = omega (arith, f .size)
+
+  pub factor-run : FirstRun s p (j - j % p)
+  factor-run = rw length-factor at (scan-end s j k (f .scan) (f .stops))
+
+  pub factor-word : Lyndon (take p s)
+  factor-word = rw length-factor at (f .scan .word)
+
+  pub factor-within : (0 < p) × (p ≤ j) × (j ≤ length s)
+  factor-within = (omega (arith, f .size, f .scan .order), omega (arith, f .size), f .scan .inside)
+
+  -- the slice behind the factor, where its word stands there again: that word is its first factor, and the scan has found it already
+  pub factor-behind : p ≤ k → FirstFactor (drop p s) p (j - p) (k - p)
+  factor-behind h =
+      let e : j ≡ k + p = f .size in
+      let c : j - p ≡ k = omega arith in
+      let x : p + k ≡ j = omega arith in
+      let y : p + (k - p) ≡ k = omega arith in
+      rw c (record {
+        size = omega arith;
+        scan = scan-behind s p k (rw e at (f .scan)) h;
+        stops = λ l. rw (getD-drop, x, getD-drop, y) (f .stops (omega (arith, length-drop p s)));
+      })

@@ -16,8 +16,7 @@ use Rattle.words.proofs.Order.{trans, decided, decided-more}
 use Rattle.words.proofs.Factor.{run-split, run-word, run-size}
 use Rattle.words.proofs.Route.{inside}
 use Rattle.words.proofs.Run.{reading-split}
-use Rattle.words.proofs.Block.{drop-take}
-use Rattle.words.proofs.Scan.{Scan, scan-end, scan-drop, scan-take}
+use Rattle.words.proofs.Scan.{Scan, scan-end, scan-drop, scan-take, drop-take}
 use Rattle.words.proofs.Chain.{Above}
 
 -- what is less than u at a letter is below every reading that begins in copies of u

@@ -14,9 +14,9 @@ use Rattle.words.specs.Match.{MatchLength}
 use Rattle.words.specs.Block.{Head, Block}
 use Rattle.words.specs.Start.{AtMost, More, Chain}
 use Rattle.words.specs.Mark.{unmark, Mark, yes, no, Judged, add, leave, Outside, Fresh, Marking}
+use Rattle.words.proofs.Scan.{drop-take}
 use Rattle.words.proofs.Search.{either, lt-or-ge}
 use Rattle.words.proofs.Factor.{longest-least, longest-within}
-use Rattle.words.proofs.Block.{drop-take}
 use Rattle.words.proofs.Fill.{block-first, block-one}
 use Rattle.words.proofs.StartScan.{near-good, near-bad, far-good, far-bad, chain-new}
 use Rattle.words.proofs.StartMatch.{whole-ok, whole-not, ok-front, match-whole, match-low, match-high}

@@ -2,7 +2,7 @@
 -- Assumes nothing.
 use mathlib.Core.Path.{_≡_, refl, sym, ap, _∙_}
 use mathlib.Core.List.{List, [], _∷_, _++_, map, reverse, reverseAux, reverse-cons, reverse-reverse, reverse-append, map-append}
-use Prim.Native.Nat.{ℕ, suc, _≤_, _<_, _-_}
+use Prim.Native.Nat.{ℕ, suc, _<_, _-_}
 use native.Mathlib.Omega.{arith}
 use lib.Dec.{eqb}
 use borrow.Author.Tests.{eqb-true}
@@ -50,16 +50,6 @@ pub opposite-reading : (w : List ℕ) (i : ℕ) → opposite (reading w i) ≡ r
 unfolding reading
 opposite-reading w i =
     opposite-turned (take i w) (drop i w) ∙ ap (λ x. reading (opposite x) (length (drop i w))) (take-append-drop i w) ∙ ap (reading (opposite w)) (length-drop i w)
-
-opposite-back : (w : List ℕ) (i : ℕ) → opposite (drop i w ++ take i w) ≡ reading (opposite w) (length w - i)
-unfolding reading
-opposite-back w i = opposite-reading w i
-
--- a reading of the opposite strand is two straight runs, each turned over
-pub opposite-parts : (w : List ℕ) (i : ℕ) → i ≤ length w → reading (opposite w) i ≡ opposite (take (length w - i) w) ++ opposite (drop (length w - i) w)
-opposite-parts w i h =
-    let e : length w - (length w - i) ≡ i = omega arith in
-    sym (sym (opposite-append (drop (length w - i) w) (take (length w - i) w)) ∙ opposite-back w (length w - i) ∙ ap (reading (opposite w)) e)
 
 -- ---- a ring on a strand
 

@@ -20,6 +20,12 @@ pub record Scan (s : List ℕ) (j k : ℕ) : Type 0 where
   pub over : Over (take (j - k) s) (take k s) (getD s k 0)
   pub made : take j s ≡ take (j - k) s ++ take k s
 
+-- the first factor has length p: the scan that found it has read j letters, and ended there or met a letter less than the one expected
+pub record FirstFactor (s : List ℕ) (p j k : ℕ) : Type 0 where
+  pub size : j ≡ k + p
+  pub scan : Scan s j k
+  pub stops : j < length s → getD s j 0 < getD s k 0
+
 -- no suffix of a longer prefix that begins before m is least
 pub record Head (w : List ℕ) (m : ℕ) : Type 0 where
   pub within : m ≤ length w

@@ -11,7 +11,10 @@ use Rattle.ring.proofs.comparison.same_key.Statement.{statement}
 use Rattle.ring.proofs.comparison.same_key.Tie as tie
 
 returns : tie.Need-returns
-returns c = same-length _ _ _ (c .before .before .before .pre .0) (c .before .before .before .pre .2) (c .if1 .taken)
+returns c = let h = c .before .before .before .pre in same-length _ _ _ (h .0) (h .1) (c .if1 .taken)
+
+facing-table-requires : tie.Need-facing-table-requires
+facing-table-requires c κs = search needs
 
 start-of-requires : tie.Need-start-of-requires
 start-of-requires c κs = search needs
@@ -21,36 +24,42 @@ start-of-requires-2 c κs = search needs
 
 same-reading-requires : tie.Need-same-reading-requires
 same-reading-requires c κs =
-    let a = found-within _ _ (c .before .start-of .ensures) (c .before .before .before .before .before .pre .0) in
-    let b = found-within _ _ (c .start-of2 .ensures) (c .before .before .before .before .before .pre .2) in
+    let h = c .before .before .before .before .before .before .before .before .before .pre in
+    let a = found-within _ _ (c .before .before .before .start-of .ensures) (h .0) in
+    let b = found-within _ _ (c .before .start-of2 .ensures) (h .1) in
     search needs
 
 returns-2 : tie.Need-returns-2
-returns-2 c = same-own _ _ _ (c .before .before .before .before .before .before .before .pre .0) (c .before .before .before .before .before .before .before .pre .2) (read-same _ _ _ _ (c .before .before .before .start-of .ensures) (c .before .before .start-of2 .ensures) (sym (c .before .same-reading .ensures) ∙ c .if2 .taken))
+returns-2 c =
+    let h = c .before .before .before .before .before .before .before .before .before .before .before .pre in
+    same-own _ _ _ (h .0) (h .1) (read-same _ _ _ _ (c .before .before .before .before .before .start-of .ensures) (c .before .before .before .start-of2 .ensures) (sym (c .before .same-reading .ensures) ∙ c .if2 .taken))
 
 has-strands-requires : tie.Need-has-strands-requires
 has-strands-requires c κs = search needs
 
 same-opposite-requires : tie.Need-same-opposite-requires
-same-opposite-requires c κs = let b = found-within _ _ (c .before .before .before .before .start-of2 .ensures) (c .before .before .before .before .before .before .before .before .before .pre .2) in search needs
+same-opposite-requires c κs = let b = found-within _ _ (c .before .before .before .before .before .start-of2 .ensures) (c .before .before .before .before .before .before .before .before .before .before .before .before .before .pre .1) in search needs
 
 returns-3 : tie.Need-returns-3
 unfolding lowest
 returns-3 c =
-    let n = read-differ _ _ _ _ (c .before .before .before .before .before .before .start-of .ensures) (c .before .before .before .before .before .start-of2 .ensures) (sym (c .before .before .before .before .same-reading .ensures) ∙ c .before .before .before .if2 .left) in
-    same-other _ _ _ (c .before .before .before .before .before .before .before .before .before .before .pre .0) (c .before .before .before .before .before .before .before .before .before .before .pre .2) n (sym (c .before .before .has-strands .ensures) ∙ c .before .if3 .taken) _
-    (c .same-opposite .ensures ∙ ap (λ i. equal (lowest (opposite (c .before .before .before .before .before .before .before .before .before .before .args .first .now))) (reading (c .before .before .before .before .before .before .before .before .before .before .args .second .now) i)) (c .before .before .before .before .before .start-of2 .ensures))
+    let s = c .before .before .before .before .before .before .before .before .before .before .before .before .before .before in
+    let n = read-differ _ _ _ _ (c .before .before .before .before .before .before .before .before .start-of .ensures) (c .before .before .before .before .before .before .start-of2 .ensures) (sym (c .before .before .before .before .same-reading .ensures) ∙ c .before .before .before .if2 .left) in
+    same-other _ _ _ (s .pre .0) (s .pre .1) n (sym (c .before .before .has-strands .ensures) ∙ c .before .if3 .taken) _
+    (c .same-opposite .ensures ∙ ap (λ i. equal (lowest (opposite (s .args .first .now))) (reading (s .args .second .now) i)) (c .before .before .before .before .before .before .start-of2 .ensures))
 
 returns-4 : tie.Need-returns-4
 returns-4 c =
-    let n = read-differ _ _ _ _ (c .before .before .before .before .before .start-of .ensures) (c .before .before .before .before .start-of2 .ensures) (sym (c .before .before .before .same-reading .ensures) ∙ c .before .before .if2 .left) in
-    same-plain _ _ _ (c .before .before .before .before .before .before .before .before .before .pre .0) (c .before .before .before .before .before .before .before .before .before .pre .2) n (sym (c .before .has-strands .ensures) ∙ c .if3 .left)
+    let s = c .before .before .before .before .before .before .before .before .before .before .before .before .before in
+    let n = read-differ _ _ _ _ (c .before .before .before .before .before .before .before .start-of .ensures) (c .before .before .before .before .before .start-of2 .ensures) (sym (c .before .before .before .same-reading .ensures) ∙ c .before .before .if2 .left) in
+    same-plain _ _ _ (s .pre .0) (s .pre .1) n (sym (c .before .has-strands .ensures) ∙ c .if3 .left)
 
 pub same-key-spec : {M : Type 1} → statement M
 same-key-spec =
     tie.close
     (tie.spec
     returns
+    facing-table-requires
     start-of-requires
     start-of-requires-2
     same-reading-requires

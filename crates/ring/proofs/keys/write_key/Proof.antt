@@ -1,11 +1,10 @@
 -- `ring::keys::write_key` meets its contract.
 -- Assumes nothing.
 use borrow.Author.Needs.{needs}
-use Rattle.ring.proofs.Marks.{found-within}
+use Rattle.ring.proofs.Marks.{found-within, found-opposite}
 use mathlib.Core.Path.{_≡_, sym, ap, _∙_}
 use native.Mathlib.Omega.{arith}
 use lib.ListN.{length}
-use Rattle.words.proofs.Strand.{length-opposite}
 use Rattle.ring.specs.declared.judge.Verdict.the-variants.{Taken}
 use Rattle.ring.specs.declared.marking.Strands.{Strands}
 use Rattle.ring.specs.Judging.{verdict}
@@ -22,12 +21,12 @@ use Rattle.ring.proofs.marking.chosen.Reads as chosen-reads
 use Rattle.ring.proofs.marking.read_strands.Reads as read-strands-reads
 use Rattle.ring.proofs.marking.refused.Reads as refused-reads
 use Rattle.ring.proofs.keys.short_rooms.Reads as short-rooms-reads
-use Rattle.ring.proofs.reading.put_opposite.Reads as put-opposite-reads
+use Rattle.ring.proofs.facing.facing_table.Reads as facing-table-reads
 use Rattle.ring.proofs.reading.put_reading.Reads as put-reading-reads
 use Rattle.ring.proofs.start.start_of.Reads as start-of-reads
 
 abbrev Done : Type 0
-Done = lts.After-enum-told (short-rooms-reads.Asked, short-rooms-reads.Learnt, judge-reads.Asked, judge-reads.Learnt, refused-reads.Asked, refused-reads.Learnt, has-strands-reads.Asked, has-strands-reads.Learnt, read-strands-reads.Asked, read-strands-reads.Learnt, put-reading-reads.Asked, put-reading-reads.Learnt, put-opposite-reads.Asked, put-opposite-reads.Learnt, chosen-reads.Asked, chosen-reads.Learnt, start-of-reads.Asked, start-of-reads.Learnt) reads.Pre reads.Post
+Done = lts.After-enum-told (short-rooms-reads.Asked, short-rooms-reads.Learnt, judge-reads.Asked, judge-reads.Learnt, refused-reads.Asked, refused-reads.Learnt, has-strands-reads.Asked, has-strands-reads.Learnt, read-strands-reads.Asked, read-strands-reads.Learnt, put-reading-reads.Asked, put-reading-reads.Learnt, chosen-reads.Asked, chosen-reads.Learnt, facing-table-reads.Asked, facing-table-reads.Learnt, start-of-reads.Asked, start-of-reads.Learnt) reads.Pre reads.Post
 
 done-at : (c : Done) → keyVerdict (c .before .before .before .before .before .before .before .args .kind) (c .before .before .before .before .before .before .before .args .ring .now) (length (c .before .before .before .before .before .before .before .args .first .now)) (length (c .before .before .before .before .before .before .before .args .second .now)) ≡ Taken
 done-at c = ap (verdict (c .before .before .before .before .before .before .before .args .kind) (c .before .before .before .before .before .before .before .args .ring .now)) (sym (c .before .before .before .short-rooms .ensures)) ∙ sym (c .before .before .judge .ensures) ∙ c .enum-told .given .1
@@ -55,7 +54,7 @@ has-strands-requires : tie.Need-has-strands-requires
 has-strands-requires c κs = search needs
 
 read-strands-requires : tie.Need-read-strands-requires
-read-strands-requires c κs = let p = key-permitted _ _ _ _ (done-at (c .before .before)) in (p .some, p .within)
+read-strands-requires c κs = key-permitted _ _ _ _ (done-at (c .before .before)) .some
 
 put-reading-requires : tie.Need-put-reading-requires
 put-reading-requires c κs =
@@ -63,12 +62,11 @@ put-reading-requires c κs =
     let a = found-within _ _ (ap (λ (s : Strands). s .own) (c .before .read-strands .ensures)) (key-permitted _ _ _ _ (done-at d) .some) in
     (omega arith, first-fits _ _ _ _ (done-at d))
 
-put-opposite-requires : tie.Need-put-opposite-requires
-put-opposite-requires c κs =
+put-reading-requires-2 : tie.Need-put-reading-requires-2
+put-reading-requires-2 c κs =
     let d = c .before .before .before .before .before .before .before .before in
-    let w = d .before .before .before .before .before .before .before .args .ring .now in
-    let b = found-within _ _ (ap (λ (s : Strands). s .other) (c .before .before .before .before .before .read-strands .ensures)) (rw length-opposite (key-permitted _ w _ _ (done-at d) .some)) in
-    (omega (arith, length-opposite w), second-fits _ _ _ _ (done-at d) (sym (c .before .before .before .before .before .before .before .has-strands .ensures) ∙ c .before .before .before .before .before .before .if1 .taken))
+    let b = found-opposite _ _ (ap (λ (s : Strands). s .other) (c .before .before .before .before .before .read-strands .ensures)) (key-permitted _ _ _ _ (done-at d) .some) in
+    (omega arith, second-fits _ _ _ _ (done-at d) (sym (c .before .before .before .before .before .before .before .has-strands .ensures) ∙ c .before .before .before .before .before .before .if1 .taken))
 
 chosen-requires : tie.Need-chosen-requires
 chosen-requires c κs = search needs
@@ -81,16 +79,20 @@ same-length-2 c = search needs
 
 returns-2 : tie.Need-returns-2
 returns-2 c =
-    let k = keyed-stranded (c .before .before .before .before .before .before .before .before .before .before .before .before .before .before .before .before .before .before .before .args .kind) (c .before .before .before .before .before .before .before .before .before .before .before .before .before .before .before .before .before .before .before .args .ring .now) (c .before .before .before .before .before .before .before .before .before .before .before .before .before .before .before .before .before .before .before .args .first .now) (c .before .before .before .before .before .before .before .before .before .before .before .before .before .before .before .before .before .before .before .args .second .now) (done-at (c .before .before .before .before .before .before .before .before .before .before .before .before)) (sym (c .before .before .before .before .before .before .before .before .before .before .before .has-strands .ensures) ∙ c .before .before .before .before .before .before .before .before .before .before .if1 .taken) _ _ _ _
-    (c .before .before .before .before .before .before .before .before .before .read-strands .ensures) (c .chosen .ensures) (c .before .before .before .before .before .before .before .put-reading .ensures) (c .before .before .before .put-opposite .ensures) in
+    let s = c .before .before .before .before .before .before .before .before .before .before .before .before .before .before .before .before .before .before .before .args in
+    let k = keyed-stranded (s .kind) (s .ring .now) (s .first .now) (s .second .now) (done-at (c .before .before .before .before .before .before .before .before .before .before .before .before)) (sym (c .before .before .before .before .before .before .before .before .before .before .before .has-strands .ensures) ∙ c .before .before .before .before .before .before .before .before .before .before .if1 .taken) _ _ _ _
+    (c .before .before .before .before .before .before .before .before .before .read-strands .ensures) (c .chosen .ensures) (c .before .before .before .before .before .before .before .put-reading .ensures) (c .before .before .before .put-reading2 .ensures) in
     (k .marks, (k .front, k .back))
 
-start-of-requires : tie.Need-start-of-requires
-start-of-requires c κs = key-permitted _ _ _ _ (done-at (c .before .before)) .some
+facing-table-requires : tie.Need-facing-table-requires
+facing-table-requires c κs = search needs
 
-put-reading-requires-2 : tie.Need-put-reading-requires-2
-put-reading-requires-2 c κs =
-    let d = c .before .before .before .before in
+start-of-requires : tie.Need-start-of-requires
+start-of-requires c κs = (search needs, key-permitted _ _ _ _ (done-at (c .before .before .before .before)) .some)
+
+put-reading-requires-3 : tie.Need-put-reading-requires-3
+put-reading-requires-3 c κs =
+    let d = c .before .before .before .before .before .before in
     let a = found-within _ _ (c .before .start-of .ensures) (key-permitted _ _ _ _ (done-at d) .some) in
     (omega arith, first-fits _ _ _ _ (done-at d))
 
@@ -99,8 +101,9 @@ same-length-3 c = search needs
 
 returns-3 : tie.Need-returns-3
 returns-3 c =
-    let k = keyed-plain (c .before .before .before .before .before .before .before .before .before .before .before .before .before .before .args .kind) (c .before .before .before .before .before .before .before .before .before .before .before .before .before .before .args .ring .now) (c .before .before .before .before .before .before .before .before .before .before .before .before .before .before .args .first .now) (c .before .before .before .before .before .before .before .before .before .before .before .before .before .before .args .second .now) (done-at (c .before .before .before .before .before .before .before)) (sym (c .before .before .before .before .before .before .has-strands .ensures) ∙ c .before .before .before .before .before .if1 .left) _ _
-    (c .before .before .before .before .start-of .ensures) (c .before .before .put-reading2 .ensures) in
+    let s = c .before .before .before .before .before .before .before .before .before .before .before .before .before .before .before .before .args in
+    let k = keyed-plain (s .kind) (s .ring .now) (s .first .now) (s .second .now) (done-at (c .before .before .before .before .before .before .before .before .before)) (sym (c .before .before .before .before .before .before .before .before .has-strands .ensures) ∙ c .before .before .before .before .before .before .before .if1 .left) _ _
+    (c .before .before .before .before .start-of .ensures) (c .before .before .put-reading3 .ensures) in
     (k .marks, (k .front, k .back))
 
 pub write-key-spec : {M : Type 1} → statement M
@@ -115,12 +118,13 @@ write-key-spec =
     has-strands-requires
     read-strands-requires
     put-reading-requires
-    put-opposite-requires
+    put-reading-requires-2
     chosen-requires
     same-length
     same-length-2
     returns-2
+    facing-table-requires
     start-of-requires
-    put-reading-requires-2
+    put-reading-requires-3
     same-length-3
     returns-3)

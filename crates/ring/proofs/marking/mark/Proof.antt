@@ -30,7 +30,7 @@ has-strands-requires : tie.Need-has-strands-requires
 has-strands-requires c κs = search needs
 
 read-strands-requires : tie.Need-read-strands-requires
-read-strands-requires c κs = let p = taken-permitted _ _ _ (sym (c .before .before .before .before .judge .ensures) ∙ c .before .before .enum-told .given .1) .0 in (p .some, p .within)
+read-strands-requires c κs = taken-permitted _ _ _ (sym (c .before .before .before .before .judge .ensures) ∙ c .before .before .enum-told .given .1) .0 .some
 
 chosen-requires : tie.Need-chosen-requires
 chosen-requires c κs = search needs
@@ -40,11 +40,14 @@ returns-2 c =
     c .chosen .ensures ∙ ap (λ s. markedOn s (length (c .before .before .before .before .before .before .before .before .args .ring .now))) (c .before .read-strands .ensures)
     ∙ marked-stranded _ _ (sym (c .before .before .before .has-strands .ensures) ∙ c .before .before .if1 .taken) _ (sym (c .before .before .before .before .before .before .judge .ensures) ∙ c .before .before .before .before .enum-told .given .1)
 
+facing-table-requires : tie.Need-facing-table-requires
+facing-table-requires c κs = search needs
+
 start-of-requires : tie.Need-start-of-requires
-start-of-requires c κs = taken-permitted _ _ _ (sym (c .before .before .before .before .judge .ensures) ∙ c .before .before .enum-told .given .1) .0 .some
+start-of-requires c κs = (search needs, taken-permitted _ _ _ (sym (c .before .before .before .before .before .before .judge .ensures) ∙ c .before .before .before .before .enum-told .given .1) .0 .some)
 
 returns-3 : tie.Need-returns-3
-returns-3 c = marked-plain _ _ (sym (c .before .before .has-strands .ensures) ∙ c .before .if1 .left) _ (sym (c .before .before .before .before .before .judge .ensures) ∙ c .before .before .before .enum-told .given .1) _ (c .start-of .ensures)
+returns-3 c = marked-plain _ _ (sym (c .before .before .before .before .has-strands .ensures) ∙ c .before .before .before .if1 .left) _ (sym (c .before .before .before .before .before .before .before .judge .ensures) ∙ c .before .before .before .before .before .enum-told .given .1) _ (c .start-of .ensures)
 
 pub mark-spec : {M : Type 1} → statement M
 mark-spec =
@@ -58,5 +61,6 @@ mark-spec =
     read-strands-requires
     chosen-requires
     returns-2
+    facing-table-requires
     start-of-requires
     returns-3)

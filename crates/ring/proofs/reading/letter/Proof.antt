@@ -1,27 +1,26 @@
 -- `ring::reading::letter` meets its contract: below n the letter itself, from n on the one n places back.
 -- Assumes nothing.
-use mathlib.Core.Path.{sym}
-use Rattle.words.proofs.Turn.{around-in, around-out}
+use mathlib.Core.Path.{sym, _∙_}
 use borrow.Author.Needs.{needs}
+use Rattle.ring.proofs.OnStrand.{around-near, around-far}
 use Rattle.ring.proofs.reading.letter.Statement.{statement}
 use Rattle.ring.proofs.reading.letter.Tie as tie
 
-shared-slice-read-result : tie.Need-shared-slice-read-result
-shared-slice-read-result c = search needs
-
-sub-result : tie.Need-sub-result
-sub-result c = search needs
-
-shared-slice-read-result-2 : tie.Need-shared-slice-read-result-2
-shared-slice-read-result-2 c = search needs
+letter-at-requires : tie.Need-letter-at-requires
+letter-at-requires c κs = search needs
 
 returns : tie.Need-returns
-returns c = sym (around-in (c .before .before .args .s .now) _ (c .before .if1 .taken))
+returns c = let s = c .before .before .before .args in c .letter-at .ensures ∙ sym (around-near (s .strand) (s .s .now) (s .i) (search needs))
+
+sub-letter-at : tie.Need-sub-letter-at
+sub-letter-at c = search needs
+
+letter-at-requires-2 : tie.Need-letter-at-requires-2
+letter-at-requires-2 c κs = search needs
 
 returns-2 : tie.Need-returns-2
-returns-2 c = sym (around-out (c .before .before .args .s .now) _ (c .before .if1 .left) (c .before .before .pre))
+returns-2 c = let s = c .before .before .before .args in c .letter-at2 .ensures ∙ sym (around-far (s .strand) (s .s .now) (s .i) (search needs) (search needs))
 
 pub letter-spec : {M : Type 1} → statement M
 letter-spec =
-    tie.close
-    (tie.spec shared-slice-read-result sub-result shared-slice-read-result-2 returns returns-2)
+    tie.close (tie.spec letter-at-requires returns sub-letter-at letter-at-requires-2 returns-2)

@@ -1,7 +1,7 @@
 -- `ring::reading::lower` meets its contract: the first differing pair decides.
 -- Assumes nothing.
 use borrow.Author.Needs.{needs}
-use Rattle.words.proofs.Paired.{before-at, before-same}
+use Rattle.ring.proofs.OnStrand.{lower-at, lower-same}
 use Rattle.ring.proofs.reading.lower.Statement.{statement}
 use Rattle.ring.proofs.reading.lower.Tie as tie
 
@@ -9,7 +9,9 @@ meet-requires : tie.Need-meet-requires
 meet-requires c κs = search needs
 
 returns : tie.Need-returns
-returns c = before-same _ _ _ _ _ (search needs) (search needs) (search needs) (c .before .meet .ensures) (search needs)
+returns c =
+    let s = c .before .before .before .before .args in
+    lower-same (s .x) (s .y) (s .u .now) (s .v .now) (s .i) (s .j) _ (search needs) (search needs) (search needs) (c .before .meet .ensures .0) (search needs)
 
 add-letter : tie.Need-add-letter
 add-letter c = search needs
@@ -25,7 +27,8 @@ letter-requires-2 c κs = search needs
 
 returns-2 : tie.Need-returns-2
 returns-2 c =
-    before-at _ _ _ _ _ (search needs) (search needs) (search needs) (c .before .before .before .meet .ensures) (search needs) _ _ (c .before .letter .ensures) (c .letter2 .ensures)
+    let s = c .before .before .before .before .before .before .args in
+    lower-at (s .x) (s .y) (s .u .now) (s .v .now) (s .i) (s .j) _ (search needs) (search needs) (search needs) (c .before .before .before .meet .ensures .0) (search needs) _ _ (c .before .letter .ensures) (c .letter2 .ensures)
 
 pub lower-spec : {M : Type 1} → statement M
 lower-spec =

@@ -3,13 +3,14 @@
 use mathlib.Core.Path.{sym, _∙_}
 use borrow.Author.Needs.{needs}
 use Rattle.words.specs.Ring.{reading}
+use Rattle.words.specs.Strand.{onStrand}
 use Rattle.words.proofs.Order.{irrefl}
 use Rattle.words.proofs.Ring.{better-old}
 use Rattle.ring.proofs.reading.lower_of.Statement.{statement}
 use Rattle.ring.proofs.reading.lower_of.Tie as tie
 
 returns : tie.Need-returns
-returns c = sym (better-old (reading (c .before .before .args .ring .now)) _ _ (rw (c .if1 .taken) irrefl))
+returns c = let s = c .before .before .args in sym (better-old (reading (onStrand (s .strand) (s .ring .now))) _ _ (rw (c .if1 .taken) irrefl))
 
 lower-requires : tie.Need-lower-requires
 lower-requires c κs = search needs

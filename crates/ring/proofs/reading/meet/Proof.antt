@@ -2,18 +2,19 @@
 -- Assumes nothing.
 use mathlib.Core.Path.{sym, _∙_}
 use Prim.Native.Nat.{_≤_, _-_}
-use native.Mathlib.Omega.{arith}
 use borrow.Author.Needs.{needs}
 use borrow.Author.Count.{below-more}
 use Rattle.words.specs.Paired.{Paired}
+use Rattle.words.specs.Strand.{onStrand}
+use Rattle.ring.proofs.OnStrand.{met-all, met-differs}
 use Rattle.ring.proofs.reading.meet.Statement.{statement}
 use Rattle.ring.proofs.reading.meet.Tie as tie
 
 abbrev Inv-loop : tie.InvT-loop
-Inv-loop u i v j n k₀ k = (k ≤ n) × Paired u v i j k
+Inv-loop facing u x i v y j n k₀ k = (k ≤ n) × Paired (onStrand x u) (onStrand y v) i j k
 
 abbrev μ-loop : tie.MeasureT-loop
-μ-loop u i v j n k₀ k = n - k
+μ-loop facing u x i v y j n k₀ k = n - k
 
 loop-holds : tie.Need-loop-holds Inv-loop μ-loop
 loop-holds c = search needs
@@ -41,14 +42,17 @@ loop-again c =
     (search needs, below-more _ _ (c .before .before .before .before .loop .inv .1) (sym (c .before .before .letter .ensures) ∙ c .if1 .left ∙ c .before .letter2 .ensures))
 
 returns : tie.Need-returns Inv-loop μ-loop
-returns c = record { within = search needs; agree = c .before .loop .inv .1; differs = λ h. absurd (omega (arith, c .loop-test .left)) }
+returns c =
+    let s = c .before .before .before .before .args in
+    (met-all (s .x) (s .y) (s .u .now) (s .v .now) (s .i) (s .j) _ (search needs) (search needs) (c .before .loop .inv .1), search needs)
 
 returns-2 : tie.Need-returns-2 Inv-loop μ-loop
-returns-2 c = record {
-  within = search needs;
-  agree = c .before .before .before .before .loop .inv .1;
-  differs = λ h e. c .if1 .taken (c .before .before .letter .ensures ∙ e ∙ sym (c .before .letter2 .ensures));
-}
+returns-2 c =
+    let s = c .before .before .before .before .before .before .before .args in (
+      met-differs (s .x) (s .y) (s .u .now) (s .v .now) (s .i) (s .j) _ (search needs) (c .before .before .before .before .loop .inv .1)
+          (λ e. c .if1 .taken (c .before .before .letter .ensures ∙ e ∙ sym (c .before .letter2 .ensures))),
+      search needs,
+    )
 
 pub meet-spec : {M : Type 1} → statement M
 meet-spec =

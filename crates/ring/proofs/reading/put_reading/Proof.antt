@@ -1,18 +1,30 @@
--- `ring::reading::put_reading` meets its contract: the letters from `at` on, and behind them those before it.
+-- `ring::reading::put_reading` meets its contract: the letters of the strand from `at` on, and behind them those before it.
 -- Assumes nothing.
 use borrow.Author.Needs.{needs}
-use mathlib.Core.Path.{sym}
 use native.Mathlib.Omega.{arith}
-use Prim.Native.Nat.{_-_}
-use lib.ListN.{length, take, drop, length-drop, length-take}
-use lib.Seq.{take-all, length-take-le}
+use lib.ListN.{take, drop, length-drop, length-take}
 use Rattle.words.specs.Ring.{reading}
+use Rattle.words.specs.Strand.{onStrand}
+use Rattle.words.proofs.Strand.{length-strand}
 use Rattle.ring.proofs.Laid.{over-two}
+use Rattle.ring.proofs.OnStrand.{length-back, length-front}
 use Rattle.ring.proofs.reading.put_reading.Statement.{statement}
 use Rattle.ring.proofs.reading.put_reading.Tie as tie
 
+facing-table-requires : tie.Need-facing-table-requires
+facing-table-requires c κs = search needs
+
 sub-rest : tie.Need-sub-rest
 sub-rest c = search needs
+
+back-of-requires : tie.Need-back-of-requires
+back-of-requires c κs = search needs
+
+copy-requires : tie.Need-copy-requires
+copy-requires c κs = let s = c .before .before .before .before .before .before .args in (search needs, omega (arith, length-back (s .strand) (s .w .now) (c .before .back-of .result .now) (s .at) (c .before .back-of .ensures)))
+
+front-of-requires : tie.Need-front-of-requires
+front-of-requires c κs = search needs
 
 sub-copy : tie.Need-sub-copy
 sub-copy c = search needs
@@ -23,23 +35,10 @@ part-copy-start c = search needs
 part-copy-end : tie.Need-part-copy-end
 part-copy-end c = search needs
 
-copy-requires : tie.Need-copy-requires
-copy-requires c κs = search needs
-
-slice-aggregate-copy : tie.Need-slice-aggregate-copy
-slice-aggregate-copy c = sym (length-take-le _ _ (search needs))
-
-sub-copy-2 : tie.Need-sub-copy-2
-sub-copy-2 c = search needs
-
-part-copy-start-2 : tie.Need-part-copy-start-2
-part-copy-start-2 c = search needs
-
-part-copy-end-2 : tie.Need-part-copy-end-2
-part-copy-end-2 c = search needs
-
 copy-requires-2 : tie.Need-copy-requires-2
-copy-requires-2 c κs = simp (length-take, length-drop) (omega arith)
+copy-requires-2 c κs =
+    let s = c .before .before .before .before .before .before .before .before .before .before .before .before .args in
+    (search needs, simp (length-take, length-drop) (omega (arith, length-front (s .strand) (s .w .now) (c .before .front-of .result .now) (s .at) (search needs) (c .before .front-of .ensures))))
 
 same-length : tie.Need-same-length
 same-length c = search needs
@@ -47,23 +46,25 @@ same-length c = search needs
 returns : tie.Need-returns
 unfolding reading
 returns c =
-    let w = c .before .before .before .before .before .before .before .before .before .before .before .before .args .w .now in
-    let at = c .before .before .before .before .before .before .before .before .before .before .before .before .args .at in
-    over-two (drop at w) (take at w) _ _ _ _ (length-drop at w) (rw (length-drop, length-take) (omega arith)) (rw (take-all (length w - at) (drop at w) (rw length-drop (omega arith))) at (c .before .before .before .before .before .before .before .copy .ensures)) (c .before .before .copy2 .ensures)
+    let s = c .before .before .before .before .before .before .before .before .before .before .before .before .before .before .before .args in
+    let w = onStrand (s .strand) (s .w .now) in
+    let n = length-strand (s .strand) (s .w .now) in
+    let a = length-drop (s .at) w in
+    let b = length-take (s .at) w in
+    over-two (drop (s .at) w) (take (s .at) w) _ _ _ _ (omega arith) (omega arith) (rw (c .before .before .before .before .before .before .before .before .before .before .back-of .ensures) at (c .before .before .before .before .before .before .before .before .copy .ensures)) (rw (c .before .before .before .before .front-of .ensures) at (c .before .before .copy2 .ensures))
 
 pub put-reading-spec : {M : Type 1} → statement M
 put-reading-spec =
     tie.close
     (tie.spec
+    facing-table-requires
     sub-rest
+    back-of-requires
+    copy-requires
+    front-of-requires
     sub-copy
     part-copy-start
     part-copy-end
-    copy-requires
-    slice-aggregate-copy
-    sub-copy-2
-    part-copy-start-2
-    part-copy-end-2
     copy-requires-2
     same-length
     returns)

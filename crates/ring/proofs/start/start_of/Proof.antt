@@ -5,68 +5,72 @@ use Prim.Native.Nat.{_+_, _≤_, _-_}
 use mathlib.Core.Path.{_≡_}
 use native.Mathlib.Omega.{arith}
 use lib.ListN.{length, drop, length-drop}
-use lib.Seq.{take-all}
 use Rattle.words.specs.Factor.{FirstRun}
+use Rattle.words.specs.Strand.{onStrand}
 use Rattle.words.proofs.Factor.{run-within, run-word, run-size}
 use Rattle.words.proofs.Run.{Best, best-none, best-next, best-last, best-below}
+use Rattle.words.proofs.Strand.{length-strand}
+use Rattle.ring.proofs.OnStrand.{length-back}
 use Rattle.ring.proofs.start.start_of.Statement.{statement}
 use Rattle.ring.proofs.start.start_of.Tie as tie
 use Rattle.ring.proofs.start.start_of.Reads as reads
 use Rattle.ring.proofs.start.start_of.Lts as lts
-use Rattle.ring.proofs.factor.first_factor.Reads as first-factor-reads
+use Rattle.ring.proofs.strand.back_of.Reads as back-of-reads
+use Rattle.ring.proofs.factor.first_run.Reads as first-run-reads
 use Rattle.ring.proofs.reading.lower_of.Reads as lower-of-reads
 
 abbrev Inv-loop : tie.InvT-loop
-Inv-loop s n best₀ m₀ best m = (n ≡ length s) × (m ≤ n) × Best s m best
+Inv-loop facing s strand n best₀ m₀ best m = (n ≡ length s) × (length (onStrand strand s) ≡ n) × (m ≤ n) × Best (onStrand strand s) m best
 
 abbrev μ-loop : tie.MeasureT-loop
-μ-loop s n best₀ m₀ best m = n - m
+μ-loop facing s strand n best₀ m₀ best m = n - m
 
 abbrev Searched : Type 0
-Searched = lts.After-first-factor (first-factor-reads.Asked, first-factor-reads.Learnt, lower-of-reads.Asked, lower-of-reads.Learnt) reads.Pre reads.Post Inv-loop μ-loop
+Searched = lts.After-first-run (back-of-reads.Asked, back-of-reads.Learnt, first-run-reads.Asked, first-run-reads.Learnt, lower-of-reads.Asked, lower-of-reads.Learnt) reads.Pre reads.Post Inv-loop μ-loop
 
 -- the first run of the letters from m on
-run-at : (c : Searched) → FirstRun (drop (c .before .before .before .loop .m) (c .before .before .before .before .before .args .s .now)) (c .first-factor .result .size) (c .first-factor .result .end)
-run-at c = let s = c .before .before .before .before .before .args .s .now in let m = c .before .before .before .loop .m in rw (take-all (length s - m) (drop m s) (rw length-drop (omega arith))) at (c .first-factor .ensures)
+run-at : (c : Searched) → FirstRun (drop (c .before .before .before .loop .m) (onStrand (c .before .before .before .before .before .args .strand) (c .before .before .before .before .before .args .s .now))) (c .first-run .result .size) (c .first-run .result .end)
+run-at c = rw (c .before .back-of .ensures) at (c .first-run .ensures)
 
-run-fits : (c : Searched) → c .before .before .before .loop .m + c .first-factor .result .end ≤ length (c .before .before .before .before .before .args .s .now)
-run-fits c = omega (arith, run-within _ _ _ (run-at c), length-drop (c .before .before .before .loop .m) (c .before .before .before .before .before .args .s .now), c .before .before .loop-test .taken)
+run-fits : (c : Searched) → c .before .before .before .loop .m + c .first-run .result .end ≤ length (c .before .before .before .before .before .args .s .now)
+run-fits c =
+    let s = c .before .before .before .before .before .args in
+    let i = c .before .before .before .loop .inv in
+    omega (arith, run-within _ _ _ (run-at c), length-drop (c .before .before .before .loop .m) (onStrand (s .strand) (s .s .now)))
 
 loop-holds : tie.Need-loop-holds Inv-loop μ-loop
-loop-holds c = (search needs, search needs, best-none _)
+loop-holds c = let s = c .before .args in (search needs, length-strand (s .strand) (s .s .now), search needs, best-none _)
 
-sub-first-factor : tie.Need-sub-first-factor Inv-loop μ-loop
-sub-first-factor c = search needs
+back-of-requires : tie.Need-back-of-requires Inv-loop μ-loop
+back-of-requires c κs = search needs
 
-part-first-factor-start : tie.Need-part-first-factor-start Inv-loop μ-loop
-part-first-factor-start c = search needs
-
-part-first-factor-end : tie.Need-part-first-factor-end Inv-loop μ-loop
-part-first-factor-end c = search needs
-
-first-factor-requires : tie.Need-first-factor-requires Inv-loop μ-loop
-first-factor-requires c κs = search needs
+first-run-requires : tie.Need-first-run-requires Inv-loop μ-loop
+first-run-requires c κs = let s = c .before .before .before .before .args in (search needs, omega (arith, length-back (s .strand) (s .s .now) (c .back-of .result .now) (c .before .before .loop .m) (c .back-of .ensures)))
 
 lower-of-requires : tie.Need-lower-of-requires Inv-loop μ-loop
-lower-of-requires c κs = (search needs, best-below _ _ _ (c .before .before .before .before .before .pre) (c .before .before .before .loop .inv .2))
+lower-of-requires c κs = let i = c .before .before .before .loop .inv in let n = i .1 in (search needs, search needs, omega (arith, best-below _ _ _ (omega arith) (i .3)))
 
 add-m : tie.Need-add-m Inv-loop μ-loop
 add-m c = omega (arith, run-fits (c .before .before))
 
 loop-less : tie.Need-loop-less Inv-loop μ-loop
-loop-less c = omega (arith, run-fits (c .before .before), run-at (c .before .before) .within, run-word _ _ _ (run-at (c .before .before)) .some, run-size _ _ _ (run-at (c .before .before)))
+loop-less c =
+    let d = c .before .before in
+    omega (arith, run-fits d, run-at d .within, run-word _ _ _ (run-at d) .some, run-size _ _ _ (run-at d))
 
 loop-again : tie.Need-loop-again Inv-loop μ-loop
 loop-again c =
     let d = c .before .before in
-    let b = best-next _ _ _ _ (run-at d) _ (d .before .before .loop-test .taken) (d .before .before .before .loop .inv .2) in
-    (search needs, run-fits d, rw (c .before .lower-of .ensures) b)
+    let i = c .before .before .before .before .before .loop .inv in
+    let b = best-next _ _ _ _ (run-at d) _ (omega arith) (i .3) in
+    (search needs, i .1, run-fits d, rw (c .before .lower-of .ensures) b)
 
 returns : tie.Need-returns Inv-loop μ-loop
 returns c =
     let i = c .before .loop .inv in
-    let e : c .before .loop .m ≡ length (c .before .before .before .args .s .now) = omega arith in
-    best-last _ _ (c .before .before .before .pre) (rw e at (i .2))
+    let s = c .before .before .before .args in
+    let e : c .before .loop .m ≡ length (onStrand (s .strand) (s .s .now)) = omega arith in
+    best-last _ _ (omega arith) (rw e at (i .3))
 
 pub start-of-spec : {M : Type 1} → statement M
 start-of-spec =
@@ -75,10 +79,8 @@ start-of-spec =
     Inv-loop
     μ-loop
     loop-holds
-    sub-first-factor
-    part-first-factor-start
-    part-first-factor-end
-    first-factor-requires
+    back-of-requires
+    first-run-requires
     lower-of-requires
     add-m
     loop-less

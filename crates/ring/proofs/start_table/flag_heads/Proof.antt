@@ -17,10 +17,13 @@ whole : (w : List ℕ) (m p e : ℕ) → FirstRun (take (length w - m) (drop m w
 whole w m p e r = rw (take-all (length w - m) (drop m w) (omega (arith, length-drop m w))) at r
 
 abbrev Inv-loop : tie.InvT-loop
-Inv-loop w t₀ m₀ t m = Flagging 8192 w t₀ t m
+Inv-loop w t₀ facing m₀ t m = Flagging 8192 w t₀ t m
 
 abbrev μ-loop : tie.MeasureT-loop
-μ-loop w t₀ m₀ t m = length w - m
+μ-loop w t₀ facing m₀ t m = length w - m
+
+facing-table-requires : tie.Need-facing-table-requires Inv-loop μ-loop
+facing-table-requires c κs = search needs
 
 loop-holds : tie.Need-loop-holds Inv-loop μ-loop
 loop-holds c = flagging-none 8192 _ _
@@ -32,7 +35,7 @@ slice-read-t : tie.Need-slice-read-t Inv-loop μ-loop
 slice-read-t c = search needs
 
 add-t : tie.Need-add-t Inv-loop μ-loop
-add-t c = let s = c .before .before .before .before .before .pre in omega (arith, flagging-low 8192 _ _ _ _ (s .2) (s .0) (search needs) (c .before .before .loop .inv))
+add-t c = let s = c .before .before .before .before .before .before .pre in omega (arith, flagging-low 8192 _ _ _ _ (s .2) (s .0) (search needs) (c .before .before .loop .inv))
 
 mul-t-2 : tie.Need-mul-t-2 Inv-loop μ-loop
 mul-t-2 c = search needs
@@ -40,28 +43,28 @@ mul-t-2 c = search needs
 slice-write-t : tie.Need-slice-write-t Inv-loop μ-loop
 slice-write-t c = search needs
 
-sub-first-factor : tie.Need-sub-first-factor Inv-loop μ-loop
-sub-first-factor c = search needs
+sub-first-run : tie.Need-sub-first-run Inv-loop μ-loop
+sub-first-run c = search needs
 
-part-first-factor-start : tie.Need-part-first-factor-start Inv-loop μ-loop
-part-first-factor-start c = search needs
+part-first-run-start : tie.Need-part-first-run-start Inv-loop μ-loop
+part-first-run-start c = search needs
 
-part-first-factor-end : tie.Need-part-first-factor-end Inv-loop μ-loop
-part-first-factor-end c = search needs
+part-first-run-end : tie.Need-part-first-run-end Inv-loop μ-loop
+part-first-run-end c = search needs
 
-first-factor-requires : tie.Need-first-factor-requires Inv-loop μ-loop
-first-factor-requires c κs = search needs
+first-run-requires : tie.Need-first-run-requires Inv-loop μ-loop
+first-run-requires c κs = search needs
 
 add-m : tie.Need-add-m Inv-loop μ-loop
-add-m c = omega (arith, run-within _ _ _ (whole (c .before .before .before .before .before .before .before .before .args .w .now) _ _ _ (c .before .first-factor .ensures)), length-drop (c .before .before .before .before .before .loop .m) (c .before .before .before .before .before .before .before .before .args .w .now))
+add-m c = let w = c .before .before .before .before .before .before .before .before .before .before .args .w .now in omega (arith, run-within _ _ _ (whole w _ _ _ (c .before .first-run .ensures)), length-drop (c .before .before .before .before .before .before .loop .m) w)
 
 loop-less : tie.Need-loop-less Inv-loop μ-loop
-loop-less c = omega (arith, run-some _ _ _ (c .before .first-factor .ensures))
+loop-less c = omega (arith, run-some _ _ _ (c .before .first-run .ensures))
 
 loop-again : tie.Need-loop-again Inv-loop μ-loop
 loop-again c =
-    let s = c .before .before .before .before .before .before .before .before .pre in
-    flagging-next 8192 _ _ _ _ (s .2) (s .0) (search needs) (c .before .before .before .before .before .loop .inv) (s .1) _ _ (whole (c .before .before .before .before .before .before .before .before .args .w .now) _ _ _ (c .before .first-factor .ensures))
+    let s = c .before .before .before .before .before .before .before .before .before .before in
+    flagging-next 8192 _ _ _ _ (s .pre .2) (s .pre .0) (search needs) (c .before .before .before .before .before .before .loop .inv) (s .pre .1) _ _ (whole (s .args .w .now) _ _ _ (c .before .first-run .ensures))
 
 same-length : tie.Need-same-length Inv-loop μ-loop
 same-length c = search needs
@@ -69,7 +72,7 @@ same-length c = search needs
 returns : tie.Need-returns Inv-loop μ-loop
 returns c =
     let i = c .before .loop .inv in
-    let e : c .before .loop .m ≡ length (c .before .before .before .before .args .w .now) = omega (arith, flagged-head (i .flags) .within) in
+    let e : c .before .loop .m ≡ length (c .before .before .before .before .before .args .w .now) = omega (arith, flagged-head (i .flags) .within) in
     (rw e at (i .flags), i .kept)
 
 pub flag-heads-spec : {M : Type 1} → statement M
@@ -78,16 +81,17 @@ flag-heads-spec =
     (tie.spec
     Inv-loop
     μ-loop
+    facing-table-requires
     loop-holds
     mul-t
     slice-read-t
     add-t
     mul-t-2
     slice-write-t
-    sub-first-factor
-    part-first-factor-start
-    part-first-factor-end
-    first-factor-requires
+    sub-first-run
+    part-first-run-start
+    part-first-run-end
+    first-run-requires
     add-m
     loop-less
     loop-again

@@ -19,7 +19,9 @@ start-of-requires-2 c κs = search needs
 lower-requires : tie.Need-lower-requires
 lower-requires c κs =
     let h = c .before .before .before .before .before .before .before .pre in
-    (search needs, found-within 1 _ _ (c .before .start-of2 .ensures) h, found-within 0 _ _ (c .before .before .before .start-of .ensures) h, refl)
+    let a = found-within 0 _ _ (c .before .before .before .start-of .ensures) h in
+    let b = found-within 1 _ _ (c .before .start-of2 .ensures) h in
+    search needs
 
 returns : tie.Need-returns
 returns c = strands-by _ _ _ (c .before .before .before .before .before .start-of .ensures) (c .before .before .before .start-of2 .ensures) true 1 (sym (c .if1 .taken) ∙ c .before .lower .ensures) refl

@@ -10,11 +10,11 @@ use borrow.Author.Tests.{eq-eqb, ne-eqb}
 use Rattle.words.specs.Order.{before}
 use Rattle.words.specs.Kind.{stranded}
 use Rattle.words.specs.Ring.{reading, start, lowest}
-use Rattle.words.specs.Strand.{opposite, strand, keyStart}
+use Rattle.words.specs.Strand.{opposite, onStrand, strand, keyStart}
 use Rattle.words.proofs.Search.{by-test}
 use Rattle.words.proofs.Ring.{start-is}
 use Rattle.words.proofs.Turn.{reading-zero}
-use Rattle.words.proofs.Strand.{length-opposite}
+use Rattle.words.proofs.Strand.{length-strand}
 use Rattle.ring.specs.declared.judge.Verdict.{Verdict}
 use Rattle.ring.specs.declared.judge.Verdict.the-variants.{Taken}
 use Rattle.ring.specs.declared.answer.Marked.{Marked}
@@ -23,12 +23,12 @@ use Rattle.ring.specs.Judging.{taken}
 use Rattle.ring.specs.Strands.{strandsOf, markedOn, refusedBy, leftTo}
 use Rattle.ring.specs.Answers.{markedAs}
 
--- a start that is found lies in the ring
-pub found-within : (w : List ℕ) (b : ℕ) → b ≡ start w → 0 < length w → b < length w
-found-within w b e h = rw e (start-is w h .within)
-
-pub found-opposite : (w : List ℕ) (b : ℕ) → b ≡ start (opposite w) → 0 < length w → b < length w
-found-opposite w b e h = let n = length-opposite w in omega (arith, found-within (opposite w) b e (omega arith))
+-- a start that is found on a strand lies in the ring
+pub found-within : (s : ℕ) (w : List ℕ) (b : ℕ) → b ≡ start (onStrand s w) → 0 < length w → b < length w
+found-within s w b e h =
+    let n = length-strand s w in
+    let i = start-is (onStrand s w) (omega arith) .within in
+    omega arith
 
 -- ---- the starts of both strands
 

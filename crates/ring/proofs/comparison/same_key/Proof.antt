@@ -25,8 +25,8 @@ start-of-requires-2 c κs = search needs
 same-reading-requires : tie.Need-same-reading-requires
 same-reading-requires c κs =
     let h = c .before .before .before .before .before .before .before .before .before .pre in
-    let a = found-within _ _ (c .before .before .before .start-of .ensures) (h .0) in
-    let b = found-within _ _ (c .before .start-of2 .ensures) (h .1) in
+    let a = found-within 0 _ _ (c .before .before .before .start-of .ensures) (h .0) in
+    let b = found-within 0 _ _ (c .before .start-of2 .ensures) (h .1) in
     search needs
 
 returns-2 : tie.Need-returns-2
@@ -38,7 +38,7 @@ has-strands-requires : tie.Need-has-strands-requires
 has-strands-requires c κs = search needs
 
 same-opposite-requires : tie.Need-same-opposite-requires
-same-opposite-requires c κs = let b = found-within _ _ (c .before .before .before .before .before .start-of2 .ensures) (c .before .before .before .before .before .before .before .before .before .before .before .before .before .pre .1) in search needs
+same-opposite-requires c κs = let b = found-within 0 _ _ (c .before .before .before .before .before .start-of2 .ensures) (c .before .before .before .before .before .before .before .before .before .before .before .before .before .pre .1) in search needs
 
 returns-3 : tie.Need-returns-3
 unfolding lowest

@@ -1,8 +1,7 @@
 -- `ring::key_test::left_to` meets its contract.
 -- Assumes nothing.
-use mathlib.Core.Path.{refl}
 use borrow.Author.Needs.{needs}
-use Rattle.ring.proofs.Marks.{found-opposite, left-other, left-own}
+use Rattle.ring.proofs.Marks.{found-within, left-other, left-own}
 use Rattle.ring.proofs.key_test.left_to.Statement.{statement}
 use Rattle.ring.proofs.key_test.left_to.Tie as tie
 
@@ -13,13 +12,13 @@ start-of-requires : tie.Need-start-of-requires
 start-of-requires c κs = search needs
 
 lower-requires : tie.Need-lower-requires
-lower-requires c κs = let h = c .before .before .before .before .before .before .pre in (search needs, h, found-opposite _ _ (c .before .before .start-of .ensures) h, refl)
+lower-requires c κs = let b = found-within 1 _ _ (c .before .before .start-of .ensures) (c .before .before .before .before .before .before .pre) in search needs
 
 returns : tie.Need-returns
 returns c = left-other _ _ _ (c .before .before .before .start-of .ensures) _ (c .before .before .if1 .taken) (c .lower .ensures)
 
 lower-requires-2 : tie.Need-lower-requires-2
-lower-requires-2 c κs = let h = c .before .before .before .before .before .before .pre in (search needs, found-opposite _ _ (c .before .before .start-of .ensures) h, h, refl)
+lower-requires-2 c κs = let b = found-within 1 _ _ (c .before .before .start-of .ensures) (c .before .before .before .before .before .before .pre) in search needs
 
 returns-2 : tie.Need-returns-2
 returns-2 c = left-own _ _ _ (c .before .before .before .start-of .ensures) _ (c .before .before .if1 .left) (c .lower2 .ensures)

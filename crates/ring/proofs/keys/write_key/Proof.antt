@@ -1,7 +1,7 @@
 -- `ring::keys::write_key` meets its contract.
 -- Assumes nothing.
 use borrow.Author.Needs.{needs}
-use Rattle.ring.proofs.Marks.{found-within, found-opposite}
+use Rattle.ring.proofs.Marks.{found-within}
 use mathlib.Core.Path.{_≡_, sym, ap, _∙_}
 use native.Mathlib.Omega.{arith}
 use lib.ListN.{length}
@@ -59,13 +59,13 @@ read-strands-requires c κs = key-permitted _ _ _ _ (done-at (c .before .before)
 put-reading-requires : tie.Need-put-reading-requires
 put-reading-requires c κs =
     let d = c .before .before .before .before in
-    let a = found-within _ _ (ap (λ (s : Strands). s .own) (c .before .read-strands .ensures)) (key-permitted _ _ _ _ (done-at d) .some) in
+    let a = found-within 0 _ _ (ap (λ (s : Strands). s .own) (c .before .read-strands .ensures)) (key-permitted _ _ _ _ (done-at d) .some) in
     (omega arith, first-fits _ _ _ _ (done-at d))
 
 put-reading-requires-2 : tie.Need-put-reading-requires-2
 put-reading-requires-2 c κs =
     let d = c .before .before .before .before .before .before .before .before in
-    let b = found-opposite _ _ (ap (λ (s : Strands). s .other) (c .before .before .before .before .before .read-strands .ensures)) (key-permitted _ _ _ _ (done-at d) .some) in
+    let b = found-within 1 _ _ (ap (λ (s : Strands). s .other) (c .before .before .before .before .before .read-strands .ensures)) (key-permitted _ _ _ _ (done-at d) .some) in
     (omega arith, second-fits _ _ _ _ (done-at d) (sym (c .before .before .before .before .before .before .before .has-strands .ensures) ∙ c .before .before .before .before .before .before .if1 .taken))
 
 chosen-requires : tie.Need-chosen-requires
@@ -93,7 +93,7 @@ start-of-requires c κs = (search needs, key-permitted _ _ _ _ (done-at (c .befo
 put-reading-requires-3 : tie.Need-put-reading-requires-3
 put-reading-requires-3 c κs =
     let d = c .before .before .before .before .before .before in
-    let a = found-within _ _ (c .before .start-of .ensures) (key-permitted _ _ _ _ (done-at d) .some) in
+    let a = found-within 0 _ _ (c .before .start-of .ensures) (key-permitted _ _ _ _ (done-at d) .some) in
     (omega arith, first-fits _ _ _ _ (done-at d))
 
 same-length-3 : tie.Need-same-length-3

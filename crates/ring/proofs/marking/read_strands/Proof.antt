@@ -3,7 +3,7 @@
 use mathlib.Core.Path.{refl, sym, _∙_}
 use mathlib.Core.Bool.{true, false}
 use borrow.Author.Needs.{needs}
-use Rattle.ring.proofs.Marks.{found-within, found-opposite, strands-by}
+use Rattle.ring.proofs.Marks.{found-within, strands-by}
 use Rattle.ring.proofs.marking.read_strands.Statement.{statement}
 use Rattle.ring.proofs.marking.read_strands.Tie as tie
 
@@ -19,7 +19,9 @@ start-of-requires-2 c κs = search needs
 lower-requires : tie.Need-lower-requires
 lower-requires c κs =
     let h = c .before .before .before .before .before .before .before .pre in
-    (search needs, found-opposite _ _ (c .before .start-of2 .ensures) h, found-within _ _ (c .before .before .before .start-of .ensures) h, refl)
+    let a = found-within 0 _ _ (c .before .before .before .start-of .ensures) h in
+    let b = found-within 1 _ _ (c .before .start-of2 .ensures) h in
+    search needs
 
 returns : tie.Need-returns
 returns c = strands-by _ _ _ (c .before .before .before .before .before .start-of .ensures) (c .before .before .before .start-of2 .ensures) true 1 (sym (c .if1 .taken) ∙ c .before .lower .ensures) refl

@@ -1,4 +1,4 @@
--- A reading written to a room: from n on it is the ring as it stands, and what the call answers by its tests.
+-- A reading written to a room: from n on it is the strand as it stands, and what the call answers by its tests.
 -- Assumes nothing.
 use mathlib.Core.Path.{_≡_, _∙_}
 use mathlib.Core.Bool.{cond}

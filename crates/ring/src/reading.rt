@@ -100,7 +100,7 @@ pub fn put_reading(w: &[u8], strand: u8, at: usize, room: &mut [u8])
     copy(&facing, front_of(w, strand, at), strand, &mut room[rest..]);
 }
 
-// A position, or the length for one beyond it: from there on a reading is the ring as it stands.
+// A position, or the length for one beyond it: from there on a reading is the strand as it stands.
 fn up_to(at: usize, n: usize) -> usize
     ensures { λ r. ⌜ r ≡ cond (ltb n at) n at ⌝ }
 {

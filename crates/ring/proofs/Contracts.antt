@@ -6,7 +6,7 @@ use borrow.Fn.World
 use borrow.Fn.Kinds as Fn
 use denote.Triple.Clauses
 use denote.Ref.{now}
-use Rattle.ring.specs.Calls.{CheckCall, FactorsCall, SuffixesCall, StartsCall, DuelCall, RepeatCall, MarkCall, WriteKeyCall, KeyCall, CompareCall}
+use Rattle.ring.specs.Calls.{CheckCall, FactorsCall, SuffixesCall, StartsCall, DuelCall, RepeatCall, MarkCall, WriteLettersCall, WriteKeyCall, KeyCall, CheckKeyCall, WriteDepositCall, CompareCall}
 use Rattle.ring.proofs.judge.check
 use Rattle.ring.proofs.judge.check.Kinds as check-kinds
 use Rattle.ring.proofs.judge.check.Reads as check-reads
@@ -28,6 +28,15 @@ use Rattle.ring.proofs.periods.repeat.Reads as repeat-reads
 use Rattle.ring.proofs.marking.mark
 use Rattle.ring.proofs.marking.mark.Kinds as mark-kinds
 use Rattle.ring.proofs.marking.mark.Reads as mark-reads
+use Rattle.ring.proofs.marking.write_letters
+use Rattle.ring.proofs.marking.write_letters.Kinds as write-letters-kinds
+use Rattle.ring.proofs.marking.write_letters.Reads as write-letters-reads
+use Rattle.ring.proofs.key_test.check_key
+use Rattle.ring.proofs.key_test.check_key.Kinds as check-key-kinds
+use Rattle.ring.proofs.key_test.check_key.Reads as check-key-reads
+use Rattle.ring.proofs.key_test.write_deposit
+use Rattle.ring.proofs.key_test.write_deposit.Kinds as write-deposit-kinds
+use Rattle.ring.proofs.key_test.write_deposit.Reads as write-deposit-reads
 use Rattle.ring.proofs.keys.write_key
 use Rattle.ring.proofs.keys.write_key.Kinds as write-key-kinds
 use Rattle.ring.proofs.keys.write_key.Reads as write-key-reads
@@ -75,5 +84,17 @@ pub key-call : (κs : Lifetimes.Lfts 2) (a : World.ArgsD key.signature κs) (r :
 key-call κs a r e p = record { is = p .0; place = p .1 }
 
 pub compare-call : (κs : Lifetimes.Lfts 2) (a : World.ArgsD compare.signature κs) (r : World.ResD compare.signature κs) (e : Clauses.AtExit (Fn.endedOf 2 compare-kinds.ps compare-kinds.r) κs)
-    → compare-reads.Post κs a r e → CompareCall (a .0) (now (a .1 .0)) (now (a .1 .1 .0)) r
+    → compare-reads.Post κs a r e → CompareCall (now (a .0)) (now (a .1 .0)) (a .1 .1 .0) r
 compare-call κs a r e p = record { answer = p }
+
+pub write-letters-call : (κs : Lifetimes.Lfts 2) (a : World.ArgsD write_letters.signature κs) (r : World.ResD write_letters.signature κs) (e : Clauses.AtExit (Fn.endedOf 2 write-letters-kinds.ps write-letters-kinds.r) κs)
+    → write-letters-reads.Post κs a r e → WriteLettersCall (now (a .0)) (a .1 .0) (now (a .1 .1 .0)) r (now (e .1 .1 .0))
+write-letters-call κs a r e p = record { answer = p .0; leaves = p .1 }
+
+pub check-key-call : (κs : Lifetimes.Lfts 1) (a : World.ArgsD check_key.signature κs) (r : World.ResD check_key.signature κs) (e : Clauses.AtExit (Fn.endedOf 1 check-key-kinds.ps check-key-kinds.r) κs)
+    → check-key-reads.Post κs a r e → CheckKeyCall (now (a .0)) (a .1 .0) (a .1 .1 .0) (a .1 .1 .1 .0) r
+check-key-call κs a r e p = record { answer = p }
+
+pub write-deposit-call : (κs : Lifetimes.Lfts 2) (a : World.ArgsD write_deposit.signature κs) (r : World.ResD write_deposit.signature κs) (e : Clauses.AtExit (Fn.endedOf 2 write-deposit-kinds.ps write-deposit-kinds.r) κs)
+    → write-deposit-reads.Post κs a r e → WriteDepositCall (now (a .0)) (a .1 .0) (a .1 .1 .0) (a .1 .1 .1 .0) (now (a .1 .1 .1 .1 .0)) r (now (e .1 .1 .1 .1 .0))
+write-deposit-call κs a r e p = record { answer = p .0; leaves = p .1 }

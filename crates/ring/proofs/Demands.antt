@@ -10,6 +10,7 @@ use native.Mathlib.Omega.{arith}
 use borrow.Author.Tests.{eq-eqb}
 use lib.Dec.{eqb}
 use lib.ListN.{length, take, getD}
+use lib.Seq.{take-at}
 use Rattle.words.specs.Kind.{stranded}
 use Rattle.words.specs.Ring.{IsStart, start, lowest}
 use Rattle.words.specs.Strand.{opposite, key}
@@ -22,6 +23,7 @@ use Rattle.words.proofs.Ring.{start-is}
 use Rattle.words.proofs.Repeat.{repeat-is, repeat-one}
 use Rattle.words.proofs.Runs.{table-few}
 use Rattle.words.proofs.Prefix.{leastSuffix-is, length-suffixTable, suffixTable-at, length-startTable, startTable-at}
+use Rattle.ring.specs.declared.judge.Verdict.{Verdict}
 use Rattle.ring.specs.declared.answer.Checked.{Checked}
 use Rattle.ring.specs.declared.answer.Factored.{Factored}
 use Rattle.ring.specs.declared.answer.Fought.{Fought}
@@ -30,14 +32,17 @@ use Rattle.ring.specs.declared.answer.Marked.{Marked}
 use Rattle.ring.specs.declared.answer.Compared.{Compared}
 use Rattle.ring.specs.Judging.{Permitted, Given, verdict, taken, numberOf}
 use Rattle.ring.specs.Answers.{fewer, keyVerdict}
-use Rattle.ring.specs.Calls.{CheckCall, FactorsCall, SuffixesCall, StartsCall, DuelCall, RepeatCall, MarkCall, WriteKeyCall, KeyCall, CompareCall}
-use Rattle.ring.specs.Demands.{lent, AsRuled, LacksRoom, GivenOf, Divided, KeyOf, OneStart, OneMolecule}
+use Rattle.ring.specs.Calls.{CheckCall, FactorsCall, SuffixesCall, StartsCall, DuelCall, RepeatCall, MarkCall, WriteLettersCall, WriteKeyCall, KeyCall, CheckKeyCall, WriteDepositCall, CompareCall}
+use Rattle.ring.specs.Demands.{lent, AsRuled, LacksRoom, GivenKey, GivenOf, Divided, KeyOf, OneStart, OneMolecule}
 use Rattle.ring.proofs.Numbers.{nothing-lent, ruled, table-ruled}
 use Rattle.ring.proofs.Entries.{divided, prefix-is}
 use Rattle.ring.proofs.KeyOf.{key-of, key-only}
 use Rattle.ring.proofs.KeyPart.{part-refused, marked-key, part-done, rooms-hold, roomy}
 use Rattle.ring.proofs.Keyed.{rooms-ruled}
-use Rattle.ring.proofs.Compared.{compared-exactly, compared-no, plain-no, six-first, yes-keys, yes-one}
+use Rattle.ring.proofs.Exactly.{taken-is, taken-permitted}
+use Rattle.ring.proofs.AsKey.{key-ruled}
+use Rattle.ring.proofs.Deposited.{deposit-ruled, deposited, deposit-only}
+use Rattle.ring.proofs.Compared.{length-key, compared-exactly, compared-no, plain-no, six-first, yes-keys, yes-one}
 use Rattle.ring.proofs.Verdicts.{number-permitted}
 use Rattle.ring.proofs.Routes.{one-start}
 
@@ -50,15 +55,15 @@ module _ {w : List ℕ} {kind : ℕ} where
 
   pub factors-ruled : {table left : List ℕ} {r : Factored} → FactorsCall w kind table r left
       → AsRuled (Given kind w (length table < length w)) (r .number) (r .place) (r .count ∷ r .start ∷ []) (lent table left (r .count) ∷ [])
-  factors-ruled c = rw (c .answer, c .leaves) (table-ruled kind w (factorTable w) _ _ _ (table-few w) (λ e. (rw e refl, (rw e refl, tt))) (λ e. rw e refl))
+  factors-ruled c = rw (c .answer, c .leaves) (table-ruled kind w (factorTable w) _ _ _ (λ p. table-few w) (λ e. (rw e refl, (rw e refl, tt))) (λ e. rw e refl))
 
   pub suffixes-ruled : {table left : List ℕ} {r : Checked} → SuffixesCall w kind table r left
       → AsRuled (Given kind w (length table < length w)) (r .number) (r .place) [] (lent table left (length w) ∷ [])
-  suffixes-ruled c = rw (c .answer, c .leaves) (table-ruled kind w (suffixTable w) _ [] (length w) (omega (arith, length-suffixTable w)) (λ e. tt) (λ e. sym (length-suffixTable w)))
+  suffixes-ruled c = rw (c .answer, c .leaves) (table-ruled kind w (suffixTable w) _ [] (length w) (λ p. omega (arith, length-suffixTable w)) (λ e. tt) (λ e. sym (length-suffixTable w)))
 
   pub starts-ruled : {table left : List ℕ} {r : Checked} → StartsCall w kind table r left
       → AsRuled (Given kind w (length table < length w)) (r .number) (r .place) [] (lent table left (length w) ∷ [])
-  starts-ruled c = rw (c .answer, c .leaves) (table-ruled kind w (startTable w) _ [] (length w) (omega (arith, length-startTable w)) (λ e. tt) (λ e. sym (length-startTable w)))
+  starts-ruled c = rw (c .answer, c .leaves) (table-ruled kind w (startTable w) _ [] (length w) (λ p. omega (arith, length-startTable w)) (λ e. tt) (λ e. sym (length-startTable w)))
 
   pub duel-ruled : {r : Fought} → DuelCall w kind r → AsRuled (Given kind w ⊥) (r .number) (r .place) (r .start ∷ r .pairs ∷ []) []
   duel-ruled c = rw (c .answer) (ruled kind w false nothing-lent _ [] (λ e. ((rw e refl, (rw e refl, tt)), tt)) (λ e. tt))
@@ -69,14 +74,30 @@ module _ {w : List ℕ} {kind : ℕ} where
   pub mark-ruled : {r : Marked} → MarkCall w kind r → AsRuled (Given kind w ⊥) (r .number) (r .place) (r .n ∷ r .start ∷ r .strand ∷ []) []
   mark-ruled c = rw (c .answer) (ruled kind w false nothing-lent _ [] (λ e. ((rw e refl, (rw e refl, (rw e refl, tt))), tt)) (λ e. tt))
 
+  pub write-letters-ruled : {room left : List ℕ} {r : Marked} → WriteLettersCall w kind room r left
+      → AsRuled (Given kind w (length room < length w)) (r .number) (r .place) (r .n ∷ r .start ∷ r .strand ∷ []) (lent room left (r .n) ∷ [])
+  write-letters-ruled c =
+      rw (c .answer, c .leaves) (table-ruled kind w (key kind w) _ _ _ (λ p. omega (arith, length-key kind w (p .some)))
+      (λ e. (rw e refl, (rw e refl, (rw e refl, tt)))) (λ e. rw e (sym (length-key kind w (taken-permitted kind w _ (taken-is _ e) .0 .some)))))
+
   -- for kind 0 nothing of the second room is written
   pub write-key-ruled : {first second one two : List ℕ} {r : Marked} → WriteKeyCall w kind first second r one two
       → AsRuled (Given kind w (LacksRoom kind w first second)) (r .number) (r .place) (r .n ∷ r .start ∷ r .strand ∷ [])
       (lent first one (r .n) ∷ lent second two (cond (stranded kind) (r .n) 0) ∷ [])
   write-key-ruled {first} {second} c = rw (c .answer, c .front, c .back) (rooms-ruled kind w first second)
 
+-- letters judged as a key with a start and a strand
+module _ {k : List ℕ} {kind at s : ℕ} where
+  pub check-key-ruled : {r : Marked} → CheckKeyCall k kind at s r
+      → AsRuled (GivenKey kind k at s ⊥) (r .number) (r .place) (r .n ∷ r .start ∷ r .strand ∷ []) []
+  check-key-ruled c = rw (c .answer) (key-ruled kind k at s false nothing-lent _ [] (λ e. ((rw e refl, (rw e refl, (rw e refl, tt))), tt)) (λ e. tt))
+
+  pub write-deposit-ruled : {room left : List ℕ} {r : Marked} → WriteDepositCall k kind at s room r left
+      → AsRuled (GivenKey kind k at s (length room < length k)) (r .number) (r .place) (r .n ∷ r .start ∷ r .strand ∷ []) (lent room left (r .n) ∷ [])
+  write-deposit-ruled {room} c = rw (c .answer, c .leaves) (deposit-ruled kind k at s room)
+
 -- the comparison, with the ring that it names; 6 names the first; a refused one says no; different lengths of permitted rings are a plain no
-module _ {kind : ℕ} {u v : List ℕ} {r : Compared} (c : CompareCall kind u v r) where
+module _ {u v : List ℕ} {kind : ℕ} {r : Compared} (c : CompareCall u v kind r) where
   pub compare-exactly : (k i x : ℕ) → ((r .number ≡ k) × (r .place ≡ i) × (r .ring ≡ x)) ↔ GivenOf kind u v k i x
   compare-exactly k i x = rw (c .answer) (compared-exactly kind u v k i x)
 
@@ -143,6 +164,23 @@ module _ {w : List ℕ} {kind : ℕ} {first second one two : List ℕ} {m : Mark
     pub key-is : m .number ≡ 0 → KeyOf kind w (m .start) (m .strand) part × (at ≡ cond (eqb (m .strand) 1) q p)
     key-is z = rw (k .is, k .place, c .answer) (rw (part-done kind w first second (sym number-said ∙ z)) (marked-key kind w first second (sym number-said ∙ z)), refl)
 
+-- the room that `write_letters` fills holds the key, with the marks answered
+pub write-letters-key : {w : List ℕ} {kind : ℕ} {room left : List ℕ} {m : Marked} → WriteLettersCall w kind room m left → m .number ≡ 0
+    → KeyOf kind w (m .start) (m .strand) (take (m .n) left)
+write-letters-key {w} {kind} {room} c z =
+    let v : Verdict = verdict kind w (fewer (length room) w) in
+    let e : numberOf v ≡ 0 = ap (λ (m : Marked). m .number) (sym (c .answer)) ∙ z in
+    let h : 0 < length w = number-permitted kind w (fewer (length room) w) e .some in
+    rw (c .answer, c .leaves, eq-eqb (numberOf v) 0 e) (rw (take-at (key kind w) _ (length w) (length-key kind w h)) (key-of kind w h))
+
+-- letters that `check_key` takes are the key of a ring, with this start and strand; `write_deposit` gives that ring back, and no other has the key
+module _ {k : List ℕ} {kind at s : ℕ} {room left : List ℕ} {m : Marked} (c : WriteDepositCall k kind at s room m left) (z : m .number ≡ 0) where
+  pub write-deposit-ring : Permitted kind (take (m .n) left) × KeyOf kind (take (m .n) left) at s k
+  write-deposit-ring = rw (c .answer, c .leaves) (deposited kind k at s room (ap (λ (m : Marked). m .number) (sym (c .answer)) ∙ z))
+
+  pub write-deposit-only : (w : List ℕ) → Permitted kind w → KeyOf kind w at s k → w ≡ take (m .n) left
+  write-deposit-only w p o = rw (c .answer, c .leaves) (deposit-only kind k at s room (ap (λ (m : Marked). m .number) (sym (c .answer)) ∙ z) w p o)
+
 -- ==== 3. For every kind and every permitted ring with room enough: the starts from the factors, from the duels and from the last entry
 -- of the start table are one number, the start and no other; the pairs are the duels', at most three a letter. And of two permitted
 -- rings: yes, equal keys, and one being a turn of the other, or of its opposite strand for a kind that has one, are the same
@@ -150,7 +188,7 @@ module _ {w : List ℕ} {kind : ℕ} {first second one two : List ℕ} {m : Mark
 module _ {kind : ℕ} {u v : List ℕ} (p : Permitted kind u) (q : Permitted kind v) where
   pub routes-agree : {t s t' s' : List ℕ} {f : Factored} {d : Fought} {x : Checked} {a b a' b' : List ℕ} {i j i' j' at at' : ℕ × ℕ} {k l : List ℕ} {c : Compared}
       → FactorsCall u kind t f t' → length u ≤ length t → DuelCall u kind d → StartsCall u kind s x s' → length u ≤ length s
-      → KeyCall u kind a b i j k at → (LacksRoom kind u a b → ⊥) → KeyCall v kind a' b' i' j' l at' → (LacksRoom kind v a' b' → ⊥) → CompareCall kind u v c
+      → KeyCall u kind a b i j k at → (LacksRoom kind u a b → ⊥) → KeyCall v kind a' b' i' j' l at' → (LacksRoom kind v a' b' → ⊥) → CompareCall u v kind c
       → OneStart u f d s' × OneMolecule kind u v c k l
   routes-agree {s = s} {a = a} {b = b} {a' = a'} {b' = b'} ft ht du st hs ku hu kv hv co = (
     rw (ft .answer, du .answer, st .leaves) (one-start kind u p _ ht s hs),

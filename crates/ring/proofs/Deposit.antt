@@ -9,25 +9,17 @@ use borrow.Author.Tests.{eq-eqb, ne-eqb}
 use lib.ListN.{length}
 use Rattle.words.specs.Ring.{reading, start}
 use Rattle.words.specs.Strand.{opposite, onStrand, strand, keyStart, key}
-use Rattle.words.proofs.Ring.{start-is}
-use Rattle.words.proofs.Strand.{opposite-reading, length-strand}
+use Rattle.words.proofs.Strand.{opposite-reading}
 use Rattle.ring.specs.Judging.{Permitted}
 use Rattle.ring.specs.Answers.{IsKey, deposit, isKey}
 use Rattle.ring.proofs.Permits.{permitted-lowest, permitted-strand}
 use Rattle.ring.proofs.KeyFit.{isKey-is, isKey-true, deposit-one}
+use Rattle.ring.proofs.Marks.{start-below}
 use Rattle.ring.proofs.Compared.{length-key}
 
 pub permitted-key : (kind : ℕ) (w : List ℕ) → Permitted kind w → Permitted kind (key kind w)
 unfolding key
 permitted-key kind w p = permitted-lowest kind (onStrand (strand kind w) w) (permitted-strand kind (strand kind w) w p)
-
-module _ (kind : ℕ) (w : List ℕ) (h : 0 < length w) where
-  some-strand : 0 < length (onStrand (strand kind w) w)
-  some-strand = rw length-strand h
-
-  pub start-below : keyStart kind w < length w
-  unfolding keyStart
-  start-below = omega (arith, start-is (onStrand (strand kind w) w) some-strand .within, length-strand (strand kind w) w)
 
 -- a ring has its own key, so the key turned back is the ring, and what the key has passes the test
 module _ (kind : ℕ) (w : List ℕ) (p : Permitted kind w) where

@@ -38,15 +38,21 @@ use Rattle.ring.proofs.keys.write_key.Reads as write-key-reads
 use Rattle.ring.proofs.keys.key
 use Rattle.ring.proofs.keys.key.Kinds as key-kinds
 use Rattle.ring.proofs.keys.key.Reads as key-reads
-use Rattle.ring.proofs.key_test.is_key
-use Rattle.ring.proofs.key_test.is_key.Kinds as is-key-kinds
-use Rattle.ring.proofs.key_test.is_key.Reads as is-key-reads
 use Rattle.ring.proofs.comparison.compare
 use Rattle.ring.proofs.comparison.compare.Kinds as compare-kinds
 use Rattle.ring.proofs.comparison.compare.Reads as compare-reads
-use Rattle.ring.proofs.reading.write_reading
-use Rattle.ring.proofs.reading.write_reading.Kinds as write-reading-kinds
-use Rattle.ring.proofs.reading.write_reading.Reads as write-reading-reads
+use Rattle.ring.proofs.marking.write_letters
+use Rattle.ring.proofs.marking.write_letters.Kinds as write-letters-kinds
+use Rattle.ring.proofs.marking.write_letters.Reads as write-letters-reads
+use Rattle.ring.proofs.key_test.check_key
+use Rattle.ring.proofs.key_test.check_key.Kinds as check-key-kinds
+use Rattle.ring.proofs.key_test.check_key.Reads as check-key-reads
+use Rattle.ring.proofs.key_test.write_deposit
+use Rattle.ring.proofs.key_test.write_deposit.Kinds as write-deposit-kinds
+use Rattle.ring.proofs.key_test.write_deposit.Reads as write-deposit-reads
+use Rattle.ring.proofs.marking.refusal
+use Rattle.ring.proofs.marking.refusal.Kinds as refusal-kinds
+use Rattle.ring.proofs.marking.refusal.Reads as refusal-reads
 
 pub check-determined : (κs : Lifetimes.Lfts 1) (a : World.ArgsD check.signature κs) (r s : World.ResD check.signature κs) (e f : Clauses.AtExit (Fn.endedOf 1 check-kinds.ps check-kinds.r) κs)
     → check-reads.Post κs a r e → check-reads.Post κs a s f → r ≡ s
@@ -88,14 +94,22 @@ pub key-determined : (κs : Lifetimes.Lfts 2) (a : World.ArgsD key.signature κs
     → key-reads.Post κs a r e → key-reads.Post κs a s f → (now r ≡ now s) × (r .ptr ≡ s .ptr)
 key-determined κs a r s e f p q = (promised-one (p .0) (q .0), promised-one (p .1) (q .1))
 
-pub is-key-determined : (κs : Lifetimes.Lfts 1) (a : World.ArgsD is_key.signature κs) (r s : World.ResD is_key.signature κs) (e f : Clauses.AtExit (Fn.endedOf 1 is-key-kinds.ps is-key-kinds.r) κs)
-    → is-key-reads.Post κs a r e → is-key-reads.Post κs a s f → r ≡ s
-is-key-determined κs a r s e f p q = promised-one p q
-
 pub compare-determined : (κs : Lifetimes.Lfts 2) (a : World.ArgsD compare.signature κs) (r s : World.ResD compare.signature κs) (e f : Clauses.AtExit (Fn.endedOf 2 compare-kinds.ps compare-kinds.r) κs)
     → compare-reads.Post κs a r e → compare-reads.Post κs a s f → r ≡ s
 compare-determined κs a r s e f p q = promised-one p q
 
-pub write-reading-determined : (κs : Lifetimes.Lfts 2) (a : World.ArgsD write_reading.signature κs) (r s : World.ResD write_reading.signature κs) (e f : Clauses.AtExit (Fn.endedOf 2 write-reading-kinds.ps write-reading-kinds.r) κs)
-    → write-reading-reads.Post κs a r e → write-reading-reads.Post κs a s f → (r ≡ s) × (now (e .1 .1 .1 .0) ≡ now (f .1 .1 .1 .0))
-write-reading-determined κs a r s e f p q = (promised-one (p .0) (q .0), promised-one (p .1) (q .1))
+pub refusal-determined : (κs : Lifetimes.Lfts 0) (a : World.ArgsD refusal.signature κs) (r s : World.ResD refusal.signature κs) (e f : Clauses.AtExit (Fn.endedOf 0 refusal-kinds.ps refusal-kinds.r) κs)
+    → refusal-reads.Post κs a r e → refusal-reads.Post κs a s f → r ≡ s
+refusal-determined κs a r s e f p q = promised-one p q
+
+pub write-letters-determined : (κs : Lifetimes.Lfts 2) (a : World.ArgsD write_letters.signature κs) (r s : World.ResD write_letters.signature κs) (e f : Clauses.AtExit (Fn.endedOf 2 write-letters-kinds.ps write-letters-kinds.r) κs)
+    → write-letters-reads.Post κs a r e → write-letters-reads.Post κs a s f → (r ≡ s) × (now (e .1 .1 .0) ≡ now (f .1 .1 .0))
+write-letters-determined κs a r s e f p q = (promised-one (p .0) (q .0), promised-one (p .1) (q .1))
+
+pub check-key-determined : (κs : Lifetimes.Lfts 1) (a : World.ArgsD check_key.signature κs) (r s : World.ResD check_key.signature κs) (e f : Clauses.AtExit (Fn.endedOf 1 check-key-kinds.ps check-key-kinds.r) κs)
+    → check-key-reads.Post κs a r e → check-key-reads.Post κs a s f → r ≡ s
+check-key-determined κs a r s e f p q = promised-one p q
+
+pub write-deposit-determined : (κs : Lifetimes.Lfts 2) (a : World.ArgsD write_deposit.signature κs) (r s : World.ResD write_deposit.signature κs) (e f : Clauses.AtExit (Fn.endedOf 2 write-deposit-kinds.ps write-deposit-kinds.r) κs)
+    → write-deposit-reads.Post κs a r e → write-deposit-reads.Post κs a s f → (r ≡ s) × (now (e .1 .1 .1 .1 .0) ≡ now (f .1 .1 .1 .1 .0))
+write-deposit-determined κs a r s e f p q = (promised-one (p .0) (q .0), promised-one (p .1) (q .1))

@@ -5,12 +5,12 @@ use mathlib.Core.Bool.{Bool, true, false, true≢false}
 use mathlib.Core.List.{List, [], _∷_}
 use Prim.Native.Nat.{ℕ, zero, suc, _≤_, _<_}
 use native.Mathlib.Omega.{arith}
-use borrow.Author.Tests.{leb-true, leb-false, eqb-true, le-ltb}
+use borrow.Author.Tests.{eqb-true, le-ltb}
 use lib.ListN.{length, getD}
 use Rattle.words.specs.Kind.{known, isLetter}
 use Rattle.words.proofs.Search.{by-test, either, lt-or-ge}
 use Rattle.ring.specs.declared.judge.Verdict.{Verdict}
-use Rattle.ring.specs.declared.judge.Verdict.the-variants.{Taken, Kind, Empty, Long, Letter, Short}
+use Rattle.ring.specs.declared.judge.Verdict.the-variants.{Taken, Kind, Empty, Long, Letter, Short, NotKey}
 use Rattle.ring.specs.Judging.{most, firstBad, Permitted, numberOf, placeOf, taken, verdict, Given, unknown, none, many, letter, lacking, done}
 use Rattle.ring.specs.Answers.{fewer}
 use Rattle.ring.proofs.Judging.{says-kind, says-empty, says-long, says-letter, says-short, says-taken}
@@ -54,6 +54,7 @@ number-taken Empty e = absurd (omega arith)
 number-taken Long e = absurd (omega arith)
 number-taken (Letter i) e = absurd (omega arith)
 number-taken Short e = absurd (omega arith)
+number-taken NotKey e = absurd (omega arith)
 
 pub taken-is : (v : Verdict) → taken v ≡ true → v ≡ Taken
 taken-is v e = number-taken v (eqb-true (numberOf v) 0 e)
@@ -67,23 +68,22 @@ module _ (kind : ℕ) (w : List ℕ) (short : Bool) where
   abbrev Said : Verdict → Type 0
   Said v = Given kind w (short ≡ true) (numberOf v) (placeOf v)
 
-  given-long : known kind ≡ true → kind ≤ 1 → 0 < length w → Said (verdict kind w short)
-  given-long k l p =
+  given-long : known kind ≡ true → 0 < length w → Said (verdict kind w short)
+  given-long k p =
       let z : length w ≡ 0 → ⊥ = λ e. omega arith in
-      either (lt-or-ge most (length w)) (λ h. rw (says-long kind w short l z h) (many k h))
+      either (lt-or-ge most (length w)) (λ h. rw (says-long kind w short k z h) (many k h))
       (λ m. either (lt-or-ge (firstBad kind w) (length w))
-      (λ h. rw (says-letter kind w short l z m _ refl h) (letter k m (firstBad kind w) h (bad-here kind w h) (good-before kind w)))
-      (λ f. by-test short (λ t. rw (says-short kind w short l z m f t) (lacking (permitted kind w k p m f) t))
-      (λ t. rw (says-taken kind w short l z m f t) (done (permitted kind w k p m f) (λ e. true≢false (sym e ∙ t))))))
+      (λ h. rw (says-letter kind w short k z m _ refl h) (letter k m (firstBad kind w) h (bad-here kind w h) (good-before kind w)))
+      (λ f. by-test short (λ t. rw (says-short kind w short k z m f t) (lacking (permitted kind w k p m f) t))
+      (λ t. rw (says-taken kind w short k z m f t) (done (permitted kind w k p m f) (λ e. true≢false (sym e ∙ t))))))
 
   -- what is said is given
   pub given : Said (verdict kind w short)
   given =
       by-test (known kind)
-      (λ k. let l : kind ≤ 1 = leb-true kind 1 k in
-      either (lt-or-ge 0 (length w)) (λ p. given-long k l p)
-      (λ p. let e : length w ≡ 0 = omega arith in rw (says-empty kind w short l e) (none k e)))
-      (λ k. rw (says-kind kind w short (leb-false kind 1 k)) (unknown k))
+      (λ k. either (lt-or-ge 0 (length w)) (given-long k)
+      (λ p. let e : length w ≡ 0 = omega arith in rw (says-empty kind w short k e) (none k e)))
+      (λ k. rw (says-kind kind w short k) (unknown k))
 
   -- ---- what is taken
 
@@ -102,12 +102,12 @@ module _ (kind : ℕ) (w : List ℕ) (short : Bool) where
   -- a permitted ring with room enough is taken
   pub permitted-taken : Permitted kind w → short ≡ false → verdict kind w short ≡ Taken
   permitted-taken p e =
-      says-taken kind w short (leb-true kind 1 (p .kinds)) (λ z. omega (arith, p .some)) (p .within) (good-all kind w (p .letters)) e
+      says-taken kind w short (p .kinds) (λ z. omega (arith, p .some)) (p .within) (good-all kind w (p .letters)) e
 
   -- without room enough it is refused with 4
   pub permitted-short : Permitted kind w → short ≡ true → verdict kind w short ≡ Short
   permitted-short p e =
-      says-short kind w short (leb-true kind 1 (p .kinds)) (λ z. omega (arith, p .some)) (p .within) (good-all kind w (p .letters)) e
+      says-short kind w short (p .kinds) (λ z. omega (arith, p .some)) (p .within) (good-all kind w (p .letters)) e
 
 -- a table or room of n entries or more is room enough
 pub roomed : (kind : ℕ) (w : List ℕ) (size : ℕ) → Permitted kind w → length w ≤ size → verdict kind w (fewer size w) ≡ Taken

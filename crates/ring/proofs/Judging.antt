@@ -6,16 +6,16 @@ use mathlib.Core.List.{List, [], _∷_}
 use Prim.Native.Nat.{ℕ, suc, _≤_, _<_, _+_}
 use native.Mathlib.Omega.{arith}
 use native.Mathlib.Numerals.{add-one}
-use borrow.Author.Tests.{eq-eqb, ne-eqb, lt-ltb, le-ltb, le-leb, lt-leb}
+use borrow.Author.Tests.{eq-eqb, ne-eqb, lt-ltb, le-ltb}
 use lib.Dec.{eqb}
 use lib.ListN.{length, drop, getD}
 use lib.Seq.{drop-cons, drop-length}
-use Rattle.words.specs.Kind.{isLetter}
+use Rattle.words.specs.Kind.{known, isLetter}
 use types.Run.{OneOf, miss}
 use denote.Enum.Declared.{tagOf}
 use Rattle.ring.proofs.judge.Verdict.{the-type}
 use Rattle.ring.specs.declared.judge.Verdict.{Verdict}
-use Rattle.ring.specs.declared.judge.Verdict.the-variants.{Taken, Kind, Empty, Long, Letter, Short}
+use Rattle.ring.specs.declared.judge.Verdict.the-variants.{Taken, Kind, Empty, Long, Letter, Short, NotKey}
 use Rattle.ring.specs.Judging.{most, firstBad, taken, verdict}
 
 -- ---- the scan of the letters: no bad letter below i
@@ -50,41 +50,42 @@ letter-last kind a k x y z = rw (ne-eqb kind 0 k, ne-eqb a 65 x, ne-eqb a 67 y, 
 -- ---- the verdict, rule by rule
 
 module _ (kind : ℕ) (w : List ℕ) (short : Bool) where
-  pub says-kind : 1 < kind → verdict kind w short ≡ Kind
+  pub says-kind : known kind ≡ false → verdict kind w short ≡ Kind
   unfolding verdict
-  says-kind h = rw (lt-leb kind 1 h)
+  says-kind h = rw h
 
-  module _ (k : kind ≤ 1) where
+  module _ (k : known kind ≡ true) where
     pub says-empty : length w ≡ 0 → verdict kind w short ≡ Empty
     unfolding verdict
-    says-empty h = rw (le-leb kind 1 k, eq-eqb (length w) 0 h)
+    says-empty h = rw (k, eq-eqb (length w) 0 h)
 
     module _ (n : length w ≡ 0 → ⊥) where
       pub says-long : most < length w → verdict kind w short ≡ Long
       unfolding verdict
-      says-long h = rw (le-leb kind 1 k, ne-eqb (length w) 0 n, lt-ltb most (length w) h)
+      says-long h = rw (k, ne-eqb (length w) 0 n, lt-ltb most (length w) h)
 
       module _ (m : length w ≤ most) where
         pub says-letter : (b : ℕ) → b ≡ firstBad kind w → b < length w → verdict kind w short ≡ Letter b
         unfolding verdict
         says-letter b e h =
-            rw (le-leb kind 1 k, ne-eqb (length w) 0 n, le-ltb most (length w) m, lt-ltb (firstBad kind w) (length w) (rw e at h), e)
+            rw (k, ne-eqb (length w) 0 n, le-ltb most (length w) m, lt-ltb (firstBad kind w) (length w) (rw e at h), e)
 
         module _ (f : length w ≤ firstBad kind w) where
           pub says-short : short ≡ true → verdict kind w short ≡ Short
           unfolding verdict
-          says-short t = rw (le-leb kind 1 k, ne-eqb (length w) 0 n, le-ltb most (length w) m, le-ltb (firstBad kind w) (length w) f, t)
+          says-short t = rw (k, ne-eqb (length w) 0 n, le-ltb most (length w) m, le-ltb (firstBad kind w) (length w) f, t)
 
           pub says-taken : short ≡ false → verdict kind w short ≡ Taken
           unfolding verdict
-          says-taken t = rw (le-leb kind 1 k, ne-eqb (length w) 0 n, le-ltb most (length w) m, le-ltb (firstBad kind w) (length w) f, t)
+          says-taken t = rw (k, ne-eqb (length w) 0 n, le-ltb most (length w) m, le-ltb (firstBad kind w) (length w) f, t)
 
 -- ---- an answer's arm for every verdict but Taken
 
-pub not-taken : (v : Verdict) → OneOf (1 ∷ 2 ∷ 3 ∷ 4 ∷ 5 ∷ []) (tagOf the-type v) → taken v ≡ false
-not-taken Taken o = absurd (miss (1 ∷ 2 ∷ 3 ∷ 4 ∷ 5 ∷ []) 0 tt o)
+pub not-taken : (v : Verdict) → OneOf (1 ∷ 2 ∷ 3 ∷ 4 ∷ 5 ∷ 6 ∷ []) (tagOf the-type v) → taken v ≡ false
+not-taken Taken o = absurd (miss (1 ∷ 2 ∷ 3 ∷ 4 ∷ 5 ∷ 6 ∷ []) 0 tt o)
 not-taken Kind o = refl
 not-taken Empty o = refl
 not-taken Long o = refl
 not-taken (Letter i) o = refl
 not-taken Short o = refl
+not-taken NotKey o = refl

@@ -18,9 +18,10 @@ use Rattle.ring.specs.declared.judge.Verdict.{Verdict}
 use Rattle.ring.specs.declared.answer.Marked.{Marked}
 use Rattle.ring.specs.Judging.{Permitted, done, numberOf, taken, field, over, after}
 use Rattle.ring.specs.Answers.{roomsShort, keyVerdict, keyedOf, firstRoom, secondRoom, keyPart, inSecond}
+use Rattle.ring.specs.Calls.{WriteKeyCall}
 use Rattle.ring.specs.Demands.{LacksRoom, KeyOf}
 use Rattle.ring.proofs.Exactly.{taken-is}
-use Rattle.ring.proofs.Keyed.{Keyed, key-permitted}
+use Rattle.ring.proofs.Keyed.{key-permitted}
 use Rattle.ring.proofs.Numbers.{given-exactly, rooms-few}
 use Rattle.ring.proofs.Verdicts.{number-refused, number-permitted}
 use Rattle.ring.proofs.Entries.{front-is}
@@ -42,7 +43,7 @@ other-stranded : (kind : ℕ) (w : List ℕ) → strand kind w ≡ 1 → strande
 unfolding strand
 other-stranded kind w h = by-test (stranded kind) (λ k. k) (λ k. absurd (omega (arith, simp k at h)))
 
-module _ (kind : ℕ) (w first second : List ℕ) (m : Marked) (one two : List ℕ) (k : Keyed kind w first second m one two) where
+module _ (kind : ℕ) (w first second : List ℕ) (m : Marked) (one two : List ℕ) (k : WriteKeyCall w kind first second m one two) where
   abbrev v : Verdict
   v = keyVerdict kind w (length first) (length second)
 
@@ -53,10 +54,10 @@ module _ (kind : ℕ) (w first second : List ℕ) (m : Marked) (one two : List �
     pub place : inSecond kind w (length first) (length second) ≡ t
 
   named : m .strand ≡ keyedOf kind w (length first) (length second) .strand
-  named = ap (λ (m : Marked). m .strand) (k .marks)
+  named = ap (λ (m : Marked). m .strand) (k .answer)
 
   counted : m .n ≡ keyedOf kind w (length first) (length second) .n
-  counted = ap (λ (m : Marked). m .n) (k .marks)
+  counted = ap (λ (m : Marked). m .n) (k .answer)
 
   some : taken v ≡ true → 0 < length w
   some t = key-permitted kind w (length first) (length second) (taken-is v t) .some

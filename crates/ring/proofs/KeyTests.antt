@@ -1,6 +1,6 @@
 -- Letters judged as a key, test by test.
 -- Assumes nothing.
-use mathlib.Core.Path.{_≡_, refl, sym, ap, _∙_}
+use mathlib.Core.Path.{_≡_, sym, _∙_}
 use mathlib.Core.Bool.{Bool, true, false, true≢false}
 use mathlib.Core.List.{List}
 use Prim.Native.Nat.{ℕ, _≤_, _<_}
@@ -14,17 +14,12 @@ use Rattle.words.specs.Repeat.{ringRepeat}
 use Rattle.words.proofs.Search.{by-test}
 use Rattle.words.proofs.Factor.{run-within}
 use Rattle.words.proofs.Necklace.{run-start, run-more, run-repeat}
-use Rattle.ring.specs.declared.judge.Verdict.{Verdict}
-use Rattle.ring.specs.Judging.{Permitted, verdict, taken}
+use Rattle.ring.specs.Judging.{Permitted}
 use Rattle.ring.specs.Strands.{leftTo}
 use Rattle.ring.specs.Answers.{isKey}
-use Rattle.ring.proofs.Exactly.{permitted-taken}
 use Rattle.ring.proofs.KeyFit.{Fit, fit-true, not-fit}
 
 module _ (kind : ℕ) (k : List ℕ) (at s : ℕ) where
-  pub test-refused : (v : Verdict) → v ≡ verdict kind k false → taken v ≡ false → false ≡ isKey kind k at s
-  test-refused v e t = not-fit kind k at s (λ f. true≢false (sym (ap taken (permitted-taken kind k false (f .permitted) refl)) ∙ ap taken (sym e) ∙ t))
-
   module _ (p : Permitted kind k) (size end : ℕ) (r : FirstRun k size end) where
     -- more than one run: not their own lowest reading
     pub test-more : (end ≡ length k → ⊥) → false ≡ isKey kind k at s

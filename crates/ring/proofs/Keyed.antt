@@ -18,13 +18,18 @@ use Rattle.ring.specs.declared.judge.Verdict.{Verdict}
 use Rattle.ring.specs.declared.judge.Verdict.the-variants.{Taken}
 use Rattle.ring.specs.declared.answer.Marked.{Marked}
 use Rattle.ring.specs.declared.marking.Strands.{Strands}
-use Rattle.ring.specs.Judging.{Permitted, Given, numberOf, placeOf, taken, field, over, after}
+use Rattle.ring.specs.Judging.{Permitted, Given, verdict, numberOf, placeOf, taken, field, over, after}
 use Rattle.ring.specs.Strands.{strandsOf, markedOn, refusedBy}
-use Rattle.ring.specs.Answers.{roomsShort, keyVerdict, keyedOf, firstRoom, secondRoom}
+use Rattle.ring.specs.Answers.{doneWith, roomsShort, keyVerdict, firstRoom, secondRoom}
+use Rattle.ring.specs.Calls.{WriteKeyCall}
 use Rattle.ring.specs.Demands.{lent, AsRuled, LacksRoom}
 use Rattle.ring.proofs.Exactly.{taken-is, taken-permitted}
 use Rattle.ring.proofs.Numbers.{ruled, rooms-few, left-alone, written-beyond}
-use Rattle.ring.proofs.Marks.{marked-refused, marked-plain, marked-stranded}
+use Rattle.ring.proofs.Marks.{by-refused, marked-done, marks-stranded}
+
+-- the verdict on a ring with the rooms of the key
+pub keyed-is : (kind : ℕ) (w : List ℕ) (a b : ℕ) (short : Bool) (v : Verdict) → short ≡ roomsShort kind w a b → v ≡ verdict kind w short → v ≡ keyVerdict kind w a b
+keyed-is kind w a b short v f e = e ∙ ap (verdict kind w) f
 
 -- the rooms that a taken ring has
 module _ (kind : ℕ) (w : List ℕ) (a b : ℕ) (e : keyVerdict kind w a b ≡ Taken) where
@@ -40,17 +45,11 @@ module _ (kind : ℕ) (w : List ℕ) (a b : ℕ) (e : keyVerdict kind w a b ≡ 
       ltb-false b (length w) (simp k at t)
 
 module _ (kind : ℕ) (w first second : List ℕ) where
-  -- what the call answers, and what both rooms hold afterwards
-  pub record Keyed (m : Marked) (one two : List ℕ) : Type 0 where
-    pub marks : m ≡ keyedOf kind w (length first) (length second)
-    pub front : one ≡ firstRoom kind w first (length second)
-    pub back : two ≡ secondRoom kind w (length first) second
-
-  pub keyed-refused : (v : Verdict) (m : Marked) → v ≡ keyVerdict kind w (length first) (length second) → taken v ≡ false → m ≡ refusedBy v → Keyed m first second
+  pub keyed-refused : (v : Verdict) (m : Marked) → v ≡ keyVerdict kind w (length first) (length second) → taken v ≡ false → m ≡ refusedBy v → WriteKeyCall w kind first second m first second
   keyed-refused v m e f q =
       let g : taken (keyVerdict kind w (length first) (length second)) ≡ false = ap taken (sym e) ∙ f in
       record {
-        marks = q ∙ ap refusedBy e ∙ marked-refused kind w (keyVerdict kind w (length first) (length second)) g;
+        answer = q ∙ by-refused _ _ _ v _ e f;
         front = rw g;
         back = by-test (stranded kind) (λ k. rw (g, k)) (λ k. rw k);
       }
@@ -59,16 +58,16 @@ module _ (kind : ℕ) (w first second : List ℕ) where
     g : taken (keyVerdict kind w (length first) (length second)) ≡ true
     g = ap taken e
 
-    pub keyed-plain : stranded kind ≡ false → (a : ℕ) (one : List ℕ) → a ≡ start w → one ≡ over (reading w a) first
-        → Keyed (record { number = 0; place = 0; n = length w; start = a; strand = 0 }) one second
-    unfolding lowest
-    keyed-plain k a one x f = record { marks = marked-plain kind w k _ e a x; front = f ∙ rw (x, g); back = rw k }
+    pub keyed-plain : stranded kind ≡ false → (m : Marked) (one : List ℕ) → m ≡ doneWith (length w) (keyStart kind w) (strand kind w) → one ≡ over (reading w (m .start)) first
+        → WriteKeyCall w kind first second m one second
+    unfolding lowest strand keyStart
+    keyed-plain k m one x f = record { answer = marked-done kind w m x _ e; front = f ∙ rw (x, g, k); back = rw k }
 
     pub keyed-stranded : stranded kind ≡ true → (s : Strands) (m : Marked) (one two : List ℕ) → s ≡ strandsOf w → m ≡ markedOn s (length w)
-        → one ≡ over (reading w (s .own)) first → two ≡ over (reading (opposite w) (s .other)) second → Keyed m one two
+        → one ≡ over (reading w (s .own)) first → two ≡ over (reading (opposite w) (s .other)) second → WriteKeyCall w kind first second m one two
     unfolding lowest
     keyed-stranded k s m one two x q f h = record {
-      marks = q ∙ ap (λ s. markedOn s (length w)) x ∙ marked-stranded kind w k _ e;
+      answer = marked-done kind w m (q ∙ marks-stranded kind w k s x) _ e;
       front = f ∙ rw (x, g);
       back = h ∙ rw (x, g, k);
     }

@@ -11,7 +11,6 @@ pub mod Contracts
 pub mod Permits
 pub mod Equal
 pub mod OnStrand
-pub mod Written
 pub mod Marks
 pub mod Keyed
 pub mod KeyPart
@@ -22,6 +21,8 @@ pub mod KeyTests
 pub mod Compared
 pub mod Rules
 pub mod Verdicts
+pub mod AsKey
 pub mod Deposit
+pub mod Deposited
 pub mod Routes
 pub mod Demands

@@ -1,6 +1,6 @@
 -- The key's marks from the starts of the strands, and letters against their opposite strand.
 -- Assumes nothing.
-use mathlib.Core.Path.{_≡_, ap, _∙_}
+use mathlib.Core.Path.{_≡_, refl, ap, _∙_}
 use mathlib.Core.Bool.{Bool, true, false, cond, not}
 use mathlib.Core.List.{List}
 use Prim.Native.Nat.{ℕ, _<_}
@@ -10,7 +10,7 @@ use borrow.Author.Tests.{eq-eqb, ne-eqb}
 use Rattle.words.specs.Order.{before}
 use Rattle.words.specs.Kind.{stranded}
 use Rattle.words.specs.Ring.{reading, start, lowest}
-use Rattle.words.specs.Strand.{opposite, onStrand, strand, keyStart}
+use Rattle.words.specs.Strand.{opposite, onStrand, strand, keyStart, key}
 use Rattle.words.proofs.Search.{by-test}
 use Rattle.words.proofs.Ring.{start-is}
 use Rattle.words.proofs.Turn.{reading-zero}
@@ -19,9 +19,9 @@ use Rattle.ring.specs.declared.judge.Verdict.{Verdict}
 use Rattle.ring.specs.declared.judge.Verdict.the-variants.{Taken}
 use Rattle.ring.specs.declared.answer.Marked.{Marked}
 use Rattle.ring.specs.declared.marking.Strands.{Strands}
-use Rattle.ring.specs.Judging.{taken}
+use Rattle.ring.specs.Judging.{taken, over, after}
 use Rattle.ring.specs.Strands.{strandsOf, markedOn, refusedBy, leftTo}
-use Rattle.ring.specs.Answers.{markedAs}
+use Rattle.ring.specs.Answers.{doneWith, markedBy, markedAs}
 
 -- a start that is found on a strand lies in the ring
 pub found-within : (s : ℕ) (w : List ℕ) (b : ℕ) → b ≡ start (onStrand s w) → 0 < length w → b < length w
@@ -38,20 +38,48 @@ module _ (w : List ℕ) (a b : ℕ) (x : a ≡ start w) (y : b ≡ start (opposi
   unfolding lowest
   strands-by t s e f = rw (f, e, x, y)
 
--- ---- the marks
+-- ---- an answer with marks, and a room, by the verdict
+
+module _ (n at s : ℕ) where
+  pub by-refused : (v a : Verdict) → v ≡ a → taken v ≡ false → refusedBy v ≡ markedBy a n at s
+  by-refused v a e t = rw (← e, t)
+
+  pub by-done : (a : Verdict) → a ≡ Taken → doneWith n at s ≡ markedBy a n at s
+  by-done a e = rw e
+
+pub room-refused : (v a : Verdict) → v ≡ a → taken v ≡ false → (new old : List ℕ) → old ≡ after a new old
+room-refused v a e t new old = rw (← e, t)
+
+pub room-done : (a : Verdict) → a ≡ Taken → (new old : List ℕ) → over new old ≡ after a new old
+room-done a e new old = rw e
+
+-- ---- the marks of a ring
+
+-- the key's start is a position of the ring
+pub start-below : (kind : ℕ) (w : List ℕ) → 0 < length w → keyStart kind w < length w
+unfolding keyStart
+start-below kind w h = found-within (strand kind w) w (start (onStrand (strand kind w) w)) refl h
 
 module _ (kind : ℕ) (w : List ℕ) where
-  pub marked-refused : (v : Verdict) → taken v ≡ false → refusedBy v ≡ markedAs v kind w
-  marked-refused v e = rw e
+  module _ (m : Marked) (q : m ≡ doneWith (length w) (keyStart kind w) (strand kind w)) where
+    pub marked-done : (a : Verdict) → a ≡ Taken → m ≡ markedAs a kind w
+    marked-done a e = q ∙ by-done _ _ _ a e
 
-  pub marked-plain : stranded kind ≡ false → (v : Verdict) → v ≡ Taken → (a : ℕ) → a ≡ start w
-      → _≡_ {A = Marked} (record { number = 0; place = 0; n = length w; start = a; strand = 0 }) (markedAs v kind w)
-  unfolding strand keyStart
-  marked-plain k v e a x = rw (e, k, x)
+    pub marked-start : 0 < length w → m .start < length w
+    marked-start h = rw q (start-below kind w h)
 
-  pub marked-stranded : stranded kind ≡ true → (v : Verdict) → v ≡ Taken → markedOn (strandsOf w) (length w) ≡ markedAs v kind w
+    -- the key is the reading at its start, on its strand
+    pub marked-key : reading (onStrand (m .strand) w) (m .start) ≡ key kind w
+    unfolding key keyStart lowest
+    marked-key = rw q
+
+  pub marks-plain : stranded kind ≡ false → (a : ℕ) → a ≡ start w → doneWith (length w) a 0 ≡ doneWith (length w) (keyStart kind w) (strand kind w)
   unfolding strand keyStart
-  marked-stranded k v e = by-test (before (lowest (opposite w)) (lowest w)) (λ t. rw (e, k, t)) (λ t. rw (e, k, t))
+  marks-plain k a x = rw (k, x)
+
+  pub marks-stranded : stranded kind ≡ true → (s : Strands) → s ≡ strandsOf w → markedOn s (length w) ≡ doneWith (length w) (keyStart kind w) (strand kind w)
+  unfolding strand keyStart
+  marks-stranded k s e = by-test (before (lowest (opposite w)) (lowest w)) (λ t. rw (e, k, t)) (λ t. rw (e, k, t))
 
 -- ---- letters against their opposite strand
 

@@ -6,14 +6,14 @@ use mathlib.Core.Bool.{Bool, true, false, true≢false}
 use mathlib.Core.List.{List, [], _∷_}
 use Prim.Native.Nat.{ℕ, _≤_, _<_}
 use native.Mathlib.Omega.{arith}
-use borrow.Author.Tests.{leb-true, leb-false, lt-ltb, ltb-true, ltb-false, eq-eqb, ne-eqb}
+use borrow.Author.Tests.{lt-ltb, ltb-true, ltb-false, eq-eqb, ne-eqb}
 use lib.Dec.{ltb}
 use lib.ListN.{length, drop, length-append, length-drop}
 use lib.Seq.{drop-at}
 use Rattle.words.specs.Kind.{stranded}
 use Rattle.words.proofs.Search.{by-test, either}
 use Rattle.ring.specs.declared.judge.Verdict.{Verdict}
-use Rattle.ring.specs.Judging.{firstBad, numberOf, placeOf, taken, verdict, after, Given, unknown, none, many, letter, lacking, done}
+use Rattle.ring.specs.Judging.{Permitted, firstBad, numberOf, placeOf, taken, verdict, after, Given, unknown, none, many, letter, lacking, done}
 use Rattle.ring.specs.Answers.{fewer, roomsShort}
 use Rattle.ring.specs.Demands.{Lent, lent, Zeros, AsLent, Beyond, AsRuled, LacksRoom}
 use Rattle.ring.proofs.Judging.{says-kind, says-empty, says-long, says-letter}
@@ -39,12 +39,12 @@ module _ (kind : ℕ) (w : List ℕ) (short : Bool) {Lacks : Type 0} (tells : (s
   told e = (ap numberOf e, ap placeOf e)
 
   given-said : {k i : ℕ} → Given kind w Lacks k i → Says k i
-  given-said (unknown k) = told (says-kind kind w short (leb-false kind 1 k))
-  given-said (none k e) = told (says-empty kind w short (leb-true kind 1 k) e)
-  given-said (many k l) = told (says-long kind w short (leb-true kind 1 k) (λ z. omega (arith, l)) l)
+  given-said (unknown k) = told (says-kind kind w short k)
+  given-said (none k e) = told (says-empty kind w short k e)
+  given-said (many k l) = told (says-long kind w short k (λ z. omega (arith, l)) l)
   given-said (letter k m i h b g) =
       let e : firstBad kind w ≡ i = bad-is kind w i h b g in
-      told (says-letter kind w short (leb-true kind 1 k) (λ z. omega (arith, h)) m i (sym e) h)
+      told (says-letter kind w short k (λ z. omega (arith, h)) m i (sym e) h)
   given-said (lacking p l) = told (permitted-short kind w short p (tells .1 l))
   given-said (done p n) = told (permitted-taken kind w short p (by-test short (λ t. absurd (n (tells .0 t))) (λ t. t)))
 
@@ -97,7 +97,7 @@ module _ (v : Verdict) (new old : List ℕ) where
       (rw e (simp (length-append, length-drop) (omega arith)), rw (e, f, drop-at new (drop (length new) old) (length new) refl))
 
 -- a call that is lent a table, written with `new` when it is done
-pub table-ruled : (kind : ℕ) (w new table others : List ℕ) (n : ℕ) → length new ≤ length w
+pub table-ruled : (kind : ℕ) (w new table others : List ℕ) (n : ℕ) → (Permitted kind w → length new ≤ length w)
     → (taken (verdict kind w (fewer (length table) w)) ≡ false → Zeros others) → (taken (verdict kind w (fewer (length table) w)) ≡ true → n ≡ length new)
     → AsRuled (Given kind w (length table < length w)) (numberOf (verdict kind w (fewer (length table) w))) (placeOf (verdict kind w (fewer (length table) w))) others
     (lent table (after (verdict kind w (fewer (length table) w)) new table) n ∷ [])
@@ -105,5 +105,5 @@ table-ruled kind w new table others n h z m =
     let v : Verdict = verdict kind w (fewer (length table) w) in
     ruled kind w (fewer (length table) w) (too-few (length table) (length w)) others (lent table (after v new table) n ∷ [])
     (λ e. (z e, (left-alone v new table e, tt)))
-    (λ e. let f : length w ≤ length table = ltb-false _ _ (taken-permitted kind w _ (taken-is v e) .1) in
-    (written-beyond v new table n (m e) (omega (arith, m e)) e, tt))
+    (λ e. let p = taken-permitted kind w (fewer (length table) w) (taken-is v e) in
+    (written-beyond v new table n (m e) (omega (arith, m e, h (p .0), ltb-false (length table) (length w) (p .1))) e, tt))

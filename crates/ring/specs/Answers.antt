@@ -1,8 +1,8 @@
 -- The full answer of each public call on rings, and every lent table or room afterwards, for refused input too.
 -- Assumes nothing.
 use mathlib.Core.Path.{_≡_}
-use mathlib.Core.Bool.{Bool, true, false, cond, _&&_, _||_}
-use mathlib.Core.List.{List, [], _∷_}
+use mathlib.Core.Bool.{Bool, true, false, cond, not, _&&_, _||_}
+use mathlib.Core.List.{List, [], _∷_, _++_}
 use Prim.Native.Nat.{ℕ, _-_}
 use lib.Dec.{ltb, eqb}
 use lib.ListN.{length}
@@ -14,13 +14,15 @@ use Rattle.words.specs.Prefix.{suffixTable, startTable}
 use Rattle.words.specs.Duel.{duels, startOf, pairs}
 use Rattle.words.specs.Repeat.{repeat}
 use Rattle.ring.specs.declared.judge.Verdict.{Verdict}
+use Rattle.ring.specs.declared.judge.Verdict.the-variants.{Taken, Short, NotKey}
 use Rattle.ring.specs.declared.answer.Checked.{Checked}
 use Rattle.ring.specs.declared.answer.Factored.{Factored}
 use Rattle.ring.specs.declared.answer.Fought.{Fought}
 use Rattle.ring.specs.declared.answer.Repeated.{Repeated}
 use Rattle.ring.specs.declared.answer.Marked.{Marked}
 use Rattle.ring.specs.declared.answer.Compared.{Compared}
-use Rattle.ring.specs.Judging.{Permitted, verdict, taken, numberOf, placeOf, field, over, after}
+use Rattle.ring.specs.Rule.{rule, judged}
+use Rattle.ring.specs.Judging.{Permitted, ringRules, verdict, taken, numberOf, placeOf, field, after}
 
 -- 4: a table or room has fewer than n entries (01)
 abbrev pub fewer : ℕ → List ℕ → Bool
@@ -79,18 +81,30 @@ repeatedOf kind w = repeatedAs (verdict kind w false) w
 
 -- ---- the key
 
--- the key's marks: n, start and strand
+-- the marks n, start and strand of a call that is done
+abbrev pub doneWith : ℕ → ℕ → ℕ → Marked
+doneWith n at s = record { number = 0; place = 0; n = n; start = at; strand = s }
+
+-- a call that declines: "other fields are 0" (01)
+abbrev pub refusalOf : ℕ → ℕ → Marked
+refusalOf number place = record { number = number; place = place; n = 0; start = 0; strand = 0 }
+
+abbrev pub markedBy : Verdict → ℕ → ℕ → ℕ → Marked
+markedBy v n at s = record { number = numberOf v; place = placeOf v; n = field v n; start = field v at; strand = field v s }
+
+-- the key's marks
 abbrev pub markedAs : Verdict → ℕ → List ℕ → Marked
-markedAs v kind w = record {
-  number = numberOf v;
-  place = placeOf v;
-  n = field v (length w);
-  start = field v (keyStart kind w);
-  strand = field v (strand kind w);
-}
+markedAs v kind w = markedBy v (length w) (keyStart kind w) (strand kind w)
 
 abbrev pub markedOf : ℕ → List ℕ → Marked
 markedOf kind w = markedAs (verdict kind w false) kind w
+
+-- the same, with the key's letters written to one room
+abbrev pub letteredOf : ℕ → List ℕ → ℕ → Marked
+letteredOf kind w size = markedAs (verdict kind w (fewer size w)) kind w
+
+abbrev pub letteredRoom : ℕ → List ℕ → List ℕ → List ℕ
+letteredRoom kind w room = after (verdict kind w (fewer (length room) w)) (key kind w) room
 
 -- "For kind 1 both rooms of the key count for 4, for kind 0 the first alone" (01): the rooms' sizes against the ring
 abbrev pub roomsShort : ℕ → List ℕ → ℕ → ℕ → Bool
@@ -141,14 +155,7 @@ comparedAs a b t =
 abbrev pub comparedOf : ℕ → List ℕ → List ℕ → Compared
 comparedOf kind u v = comparedAs (verdict kind u false) (verdict kind v false) (sameKey kind u v)
 
--- ---- a reading written, and letters judged as a key
-
--- the reading at a start of a strand, the strand as it stands from n on; 4 where the room is short is the only refusal
-abbrev pub wroteOf : List ℕ → ℕ → Checked
-wroteOf w size = record { number = cond (fewer size w) 4 0; place = 0 }
-
-abbrev pub wroteRoom : List ℕ → ℕ → ℕ → List ℕ → List ℕ
-wroteRoom w s at room = cond (fewer (length room) w) room (over (reading (onStrand s w) at) room)
+-- ---- letters judged as a key
 
 -- some permitted ring of the kind has this key, with this start and strand
 pub record IsKey (kind : ℕ) (k : List ℕ) (at s : ℕ) : Type 0 where
@@ -167,3 +174,20 @@ unfoldable pub isKey : ℕ → List ℕ → ℕ → ℕ → Bool
 isKey kind k at s =
     let w = deposit k at s in
     taken (verdict kind w false) && equal (key kind w) k && eqb (keyStart kind w) at && eqb (strand kind w) s
+
+-- letters judged as a key: "6, 1, 2, .. 3, 7, then 4 for a room lent for the original" (01)
+unfoldable pub asKey : ℕ → List ℕ → ℕ → ℕ → Bool → Verdict
+asKey kind k at s short = judged (ringRules kind k ++ rule (not (isKey kind k at s)) NotKey ∷ rule short Short ∷ []) Taken
+
+abbrev pub keyMarksOf : ℕ → List ℕ → ℕ → ℕ → Marked
+keyMarksOf kind k at s = markedBy (asKey kind k at s false) (length k) at s
+
+-- the same with a room for the deposit
+abbrev pub depositVerdict : ℕ → List ℕ → ℕ → ℕ → ℕ → Verdict
+depositVerdict kind k at s size = asKey kind k at s (fewer size k)
+
+abbrev pub depositedOf : ℕ → List ℕ → ℕ → ℕ → ℕ → Marked
+depositedOf kind k at s size = markedBy (depositVerdict kind k at s size) (length k) at s
+
+abbrev pub depositRoom : ℕ → List ℕ → ℕ → ℕ → List ℕ → List ℕ
+depositRoom kind k at s room = after (depositVerdict kind k at s (length room)) (deposit k at s) room

@@ -12,7 +12,7 @@ use Rattle.ring.specs.declared.answer.Fought.{Fought}
 use Rattle.ring.specs.declared.answer.Repeated.{Repeated}
 use Rattle.ring.specs.declared.answer.Marked.{Marked}
 use Rattle.ring.specs.declared.answer.Compared.{Compared}
-use Rattle.ring.specs.Answers.{checkedOf, factoredOf, factoredTable, filledOf, suffixesTable, startsTable, foughtOf, repeatedOf, markedOf, keyedOf, firstRoom, secondRoom, keyPart, inSecond, comparedOf}
+use Rattle.ring.specs.Answers.{checkedOf, factoredOf, factoredTable, filledOf, suffixesTable, startsTable, foughtOf, repeatedOf, markedOf, letteredOf, letteredRoom, keyMarksOf, depositedOf, depositRoom, keyedOf, firstRoom, secondRoom, keyPart, inSecond, comparedOf}
 
 -- check(w, kind) answers r
 pub record CheckCall (w : List ℕ) (kind : ℕ) (r : Checked) : Type 0 where
@@ -45,6 +45,11 @@ pub record RepeatCall (w : List ℕ) (kind : ℕ) (r : Repeated) : Type 0 where
 pub record MarkCall (w : List ℕ) (kind : ℕ) (r : Marked) : Type 0 where
   pub answer : r ≡ markedOf kind w
 
+-- write_letters(w, kind, room) answers r and leaves `left` in the room
+pub record WriteLettersCall (w : List ℕ) (kind : ℕ) (room : List ℕ) (r : Marked) (left : List ℕ) : Type 0 where
+  pub answer : r ≡ letteredOf kind w (length room)
+  pub leaves : left ≡ letteredRoom kind w room
+
 -- write_key(w, kind, first, second) answers r and leaves `one` and `two` in the rooms
 pub record WriteKeyCall (w : List ℕ) (kind : ℕ) (first second : List ℕ) (r : Marked) (one two : List ℕ) : Type 0 where
   pub answer : r ≡ keyedOf kind w (length first) (length second)
@@ -56,6 +61,15 @@ pub record KeyCall (w : List ℕ) (kind : ℕ) (first second : List ℕ) (p q : 
   pub is : part ≡ keyPart kind w (length first) (length second)
   pub place : at ≡ cond (inSecond kind w (length first) (length second)) q p
 
--- compare(kind, u, v) answers r
-pub record CompareCall (kind : ℕ) (u v : List ℕ) (r : Compared) : Type 0 where
+-- check_key(k, kind, at, s) answers r
+pub record CheckKeyCall (k : List ℕ) (kind at s : ℕ) (r : Marked) : Type 0 where
+  pub answer : r ≡ keyMarksOf kind k at s
+
+-- write_deposit(k, kind, at, s, room) answers r and leaves `left` in the room
+pub record WriteDepositCall (k : List ℕ) (kind at s : ℕ) (room : List ℕ) (r : Marked) (left : List ℕ) : Type 0 where
+  pub answer : r ≡ depositedOf kind k at s (length room)
+  pub leaves : left ≡ depositRoom kind k at s room
+
+-- compare(u, v, kind) answers r
+pub record CompareCall (u v : List ℕ) (kind : ℕ) (r : Compared) : Type 0 where
   pub answer : r ≡ comparedOf kind u v

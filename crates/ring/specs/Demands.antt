@@ -16,6 +16,7 @@ use Rattle.ring.specs.declared.answer.Factored.{Factored}
 use Rattle.ring.specs.declared.answer.Fought.{Fought}
 use Rattle.ring.specs.declared.answer.Compared.{Compared}
 use Rattle.ring.specs.Judging.{Permitted, Given}
+use Rattle.ring.specs.Answers.{IsKey}
 
 -- ---- demand 1: a call declines by 01's number, and then has changed nothing
 
@@ -55,6 +56,14 @@ pub record AsRuled (Table : ℕ → ℕ → Type 0) (number place : ℕ) (others
 -- 4 for the rooms of the key: "For kind 1 both rooms of the key count for 4, for kind 0 the first alone" (01)
 abbrev pub LacksRoom : ℕ → List ℕ → List ℕ → List ℕ → Type 0
 LacksRoom kind w first second = (length first < length w) ⊎ ((stranded kind ≡ true) × (length second < length w))
+
+-- the table for letters judged as a key: 6, 1, 2 and 3 as for a ring; 7 where no permitted ring has this key, with this start and
+-- strand; "then 4 for a room lent for the original" (01)
+pub data GivenKey (kind : ℕ) (k : List ℕ) (at s : ℕ) (Lacks : Type 0) : ℕ → ℕ → Type 0 where
+  as-ring : {n i : ℕ} → Given kind k ⊥ n i → (n ≡ 0 → ⊥) → GivenKey kind k at s Lacks n i
+  not-key : Permitted kind k → (IsKey kind k at s → ⊥) → GivenKey kind k at s Lacks 7 0
+  key-lacking : IsKey kind k at s → Lacks → GivenKey kind k at s Lacks 4 0
+  key-done : IsKey kind k at s → (Lacks → ⊥) → GivenKey kind k at s Lacks 0 0
 
 -- 01's table for the comparison, with the ring that is named: "the first ring is judged in full before the second". A wrong kind is
 -- wrong for the first ring, so 6 names the first

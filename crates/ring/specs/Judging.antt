@@ -8,7 +8,7 @@ use lib.Dec.{ltb, eqb}
 use lib.ListN.{length, drop, getD}
 use Rattle.words.specs.Kind.{known, isLetter}
 use Rattle.ring.specs.declared.judge.Verdict.{Verdict}
-use Rattle.ring.specs.declared.judge.Verdict.the-variants.{Taken, Kind, Empty, Long, Letter, Short}
+use Rattle.ring.specs.declared.judge.Verdict.the-variants.{Taken, Kind, Empty, Long, Letter, Short, NotKey}
 use Rattle.ring.specs.Rule.{Rule, rule, judged}
 
 -- the most letters that a ring has (01, "n from 1 to 8,192")
@@ -35,6 +35,7 @@ numberOf Empty = 1
 numberOf Long = 2
 numberOf (Letter i) = 3
 numberOf Short = 4
+numberOf NotKey = 7
 
 -- the place: the first position of a letter that is none, 0 unless the number is 3 (01)
 abbrev pub placeOf : Verdict → ℕ
@@ -44,23 +45,24 @@ placeOf Empty = 0
 placeOf Long = 0
 placeOf (Letter i) = i
 placeOf Short = 0
+placeOf NotKey = 0
 
 -- "0 means done" (01)
 abbrev pub taken : Verdict → Bool
 taken v = eqb (numberOf v) 0
 
--- 01: "Order for rings: 6, 1, 2, 3, 4"; `short`: a needed table or room has too few entries, false for a call that is lent none
-abbrev pub ringRules : ℕ → List ℕ → Bool → List (Rule Verdict)
-ringRules kind w short =
+-- 01: "Order for rings: 6, 1, 2, 3, 4", up to 3: what is said of the ring itself
+abbrev pub ringRules : ℕ → List ℕ → List (Rule Verdict)
+ringRules kind w =
     rule (not (known kind)) Kind
     ∷ rule (eqb (length w) 0) Empty
     ∷ rule (ltb most (length w)) Long
     ∷ rule (ltb (firstBad kind w) (length w)) (Letter (firstBad kind w))
-    ∷ rule short Short
     ∷ []
 
+-- and then 4; `short`: a needed table or room has too few entries, false for a call that is lent none
 unfoldable pub verdict : ℕ → List ℕ → Bool → Verdict
-verdict kind w short = judged (ringRules kind w short) Taken
+verdict kind w short = judged (ringRules kind w ++ rule short Short ∷ []) Taken
 
 -- 01's table for rings: each number exactly when its condition holds and none before it in the order, and its place. `Lacks` is 4's
 -- condition in the call's own terms: a needed table or room has too few entries

@@ -11,6 +11,7 @@ use Rattle.ring.specs.declared.judge.Verdict.{Verdict}
 use Rattle.ring.specs.declared.answer.Marked.{Marked}
 use Rattle.ring.specs.declared.marking.Strands.{Strands}
 use Rattle.ring.specs.Judging.{numberOf, placeOf}
+use Rattle.ring.specs.Answers.{doneWith, refusalOf}
 
 -- the start as given, the start of the opposite strand, and 1 where the opposite strand's lowest reading is the lesser, else 0
 abbrev pub strandsOf : List ℕ → Strands
@@ -18,11 +19,11 @@ strandsOf w = record { own = start w; other = start (opposite w); strand = cond 
 
 -- a ring done: the marks on the strand so named
 abbrev pub markedOn : Strands → ℕ → Marked
-markedOn s n = record { number = 0; place = 0; n = n; start = cond (eqb (s .strand) 1) (s .other) (s .own); strand = s .strand }
+markedOn s n = doneWith n (cond (eqb (s .strand) 1) (s .other) (s .own)) (s .strand)
 
 -- a ring refused
 abbrev pub refusedBy : Verdict → Marked
-refusedBy v = record { number = numberOf v; place = placeOf v; n = 0; start = 0; strand = 0 }
+refusedBy v = refusalOf (numberOf v) (placeOf v)
 
 -- whether the opposite strand leaves the key to letters that are their own lowest reading: on strand 1 only if its own is greater
 abbrev pub leftTo : List ℕ → ℕ → Bool

@@ -26,7 +26,7 @@ fn same_opposite(first: &[u8], second: &[u8], at: usize) -> bool
 }
 
 // Whether two permitted rings have one key: the lowest readings agree, or those of the first's opposite strand and the second.
-fn same_key(kind: u8, first: &[u8], second: &[u8]) -> bool
+fn same_key(first: &[u8], second: &[u8], kind: u8) -> bool
     requires { ⌜ (0 < length (now first)) × (0 < length (now second)) ⌝ }
     ensures { λ r. ⌜ r ≡ sameKey kind (now (first .entry)) (now (second .entry)) ⌝ }
 {
@@ -46,7 +46,7 @@ fn same_key(kind: u8, first: &[u8], second: &[u8]) -> bool
 }
 
 // The first ring is judged in full before the second; a refused comparison holds no.
-pub fn compare(kind: u8, first: &[u8], second: &[u8]) -> Compared
+pub fn compare(first: &[u8], second: &[u8], kind: u8) -> Compared
     ensures { λ r. ⌜ r ≡ comparedOf kind (now (first .entry)) (now (second .entry)) ⌝ }
 {
     let v = judge(first, kind, false);
@@ -71,6 +71,6 @@ pub fn compare(kind: u8, first: &[u8], second: &[u8]) -> Compared
         number: 0,
         place: 0,
         ring: 0,
-        same: same_key(kind, first, second),
+        same: same_key(first, second, kind),
     }
 }

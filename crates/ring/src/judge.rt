@@ -1,6 +1,6 @@
 // The judging of a ring: one verdict, in the order 6, 1, 2, 3, 4.
 ghost use mathlib.Core.Path.{_≡_};
-ghost use Rattle.words.specs.Kind.{isLetter, stranded, strands};
+ghost use Rattle.words.specs.Kind.{known, isLetter, stranded, strands};
 ghost use Rattle.ring.specs.Judging.{firstBad, verdict, numberOf, placeOf};
 ghost use Rattle.ring.specs.Answers.{checkedAs, checkedOf};
 use super::answer::Checked;
@@ -8,7 +8,7 @@ use super::answer::Checked;
 // The most letters that a ring has.
 pub const MOST: usize = 8192;
 
-// What is said of a ring; `Letter` holds the first position that has no letter of the kind.
+// What is said of a ring; `Letter` holds the first position that has no letter of the kind, `NotKey` is said of letters judged as a key.
 pub enum Verdict {
     Taken,
     Kind,
@@ -16,6 +16,7 @@ pub enum Verdict {
     Long,
     Letter(usize),
     Short,
+    NotKey,
 }
 
 // The number in 01's table.
@@ -29,6 +30,7 @@ pub fn number_of(v: Verdict) -> u8
         Verdict::Long => 2,
         Verdict::Letter(_) => 3,
         Verdict::Short => 4,
+        Verdict::NotKey => 7,
     }
 }
 
@@ -43,7 +45,15 @@ pub fn place_of(v: Verdict) -> usize
         Verdict::Long => 0,
         Verdict::Letter(i) => i,
         Verdict::Short => 0,
+        Verdict::NotKey => 0,
     }
+}
+
+// Whether a kind is one of ours.
+fn is_known(kind: u8) -> bool
+    ensures { λ r. ⌜ r ≡ known kind ⌝ }
+{
+    kind <= 1
 }
 
 // Whether rings of a kind have an opposite strand.
@@ -57,7 +67,7 @@ pub fn has_strands(kind: u8) -> bool
 pub fn strands_of(kind: u8) -> u8
     ensures { λ r. ⌜ r ≡ strands kind ⌝ }
 {
-    if 1 < kind {
+    if !is_known(kind) {
         return 0;
     }
     if has_strands(kind) {
@@ -104,7 +114,7 @@ pub fn first_bad(ring: &[u8], kind: u8) -> usize
 pub fn judge(ring: &[u8], kind: u8, short: bool) -> Verdict
     ensures { λ r. ⌜ r ≡ verdict kind (now (ring .entry)) short ⌝ }
 {
-    if 1 < kind {
+    if !is_known(kind) {
         return Verdict::Kind;
     }
     let n = ring.len();

@@ -6,15 +6,14 @@ ghost use lib.ListN.{length};
 ghost use Rattle.words.specs.Kind.{stranded};
 ghost use Rattle.ring.specs.Answers.{keyedOf, firstRoom, secondRoom, keyPart, inSecond};
 use super::answer::Marked;
-use super::facing::facing_table;
 use super::judge::Verdict;
 use super::judge::has_strands;
 use super::judge::judge;
 use super::marking::chosen;
+use super::marking::marks_of;
 use super::marking::read_strands;
 use super::marking::refused;
 use super::reading::put_reading;
-use super::start::start_of;
 
 // Whether a room that the key needs has fewer entries than the ring: the first, and for a kind with strands the second too.
 fn short_rooms(kind: u8, n: usize, first: usize, second: usize) -> bool
@@ -47,16 +46,9 @@ pub fn write_key(ring: &[u8], kind: u8, first: &mut [u8], second: &mut [u8]) -> 
         put_reading(ring, 1, s.other, second);
         return chosen(s, n);
     }
-    let facing = facing_table();
-    let a = start_of(&facing, ring, 0);
-    put_reading(ring, 0, a, first);
-    Marked {
-        number: 0,
-        place: 0,
-        n: n,
-        start: a,
-        strand: 0,
-    }
+    let m = marks_of(ring, kind);
+    put_reading(ring, 0, m.start, first);
+    m
 }
 
 // The key as a part of the room that holds it; a refused call hands back the empty front of the first room.

@@ -1,8 +1,6 @@
 // Readings of a ring on a strand: a letter round it, two readings compared, and a reading written.
 ghost use mathlib.Core.Path.{_≡_};
-ghost use mathlib.Core.Bool.{cond};
 ghost use Prim.Native.Nat.{_+_, _<_, _≤_};
-ghost use lib.Dec.{ltb};
 ghost use lib.ListN.{length};
 ghost use Rattle.words.specs.Ring.{around, reading};
 ghost use Rattle.words.specs.Paired.{Met};
@@ -11,8 +9,7 @@ ghost use Rattle.words.specs.Order.{before};
 ghost use Rattle.words.specs.Strand.{onStrand};
 ghost use Rattle.ring.specs.Facings.{facingTable};
 ghost use Rattle.ring.specs.Judging.{over};
-ghost use Rattle.ring.specs.Answers.{equal, wroteOf, wroteRoom};
-use super::answer::Checked;
+ghost use Rattle.ring.specs.Answers.{equal};
 use super::facing::facing_table;
 use super::strand::back_of;
 use super::strand::copy;
@@ -98,34 +95,4 @@ pub fn put_reading(w: &[u8], strand: u8, at: usize, room: &mut [u8])
     let rest = w.len() - at;
     copy(&facing, back_of(w, strand, at), strand, room);
     copy(&facing, front_of(w, strand, at), strand, &mut room[rest..]);
-}
-
-// A position, or the length for one beyond it: from there on a reading is the strand as it stands.
-fn up_to(at: usize, n: usize) -> usize
-    ensures { λ r. ⌜ r ≡ cond (ltb n at) n at ⌝ }
-{
-    if n < at {
-        return n;
-    }
-    at
-}
-
-// The reading at a start of a strand, written to a lent room; 4 where the room is short is the only refusal.
-pub fn write_reading(letters: &[u8], strand: u8, start: usize, room: &mut [u8]) -> Checked
-    ensures { λ r. ⌜ r ≡ wroteOf (now (letters .entry)) (length (now (room .entry))) ⌝ }
-    ensures { λ r. ⌜ now (room .exit) ≡ wroteRoom (now (letters .entry)) strand start (now (room .entry)) ⌝ }
-{
-    let n = letters.len();
-    if room.len() < n {
-        return Checked {
-            number: 4,
-            place: 0,
-        };
-    }
-    let at = up_to(start, n);
-    put_reading(letters, strand, at, room);
-    Checked {
-        number: 0,
-        place: 0,
-    }
 }

@@ -2,7 +2,7 @@
 -- Assumes nothing.
 use mathlib.Core.Path.{_≡_}
 use mathlib.Core.Bool.{Bool, true, false, not, _||_, _&&_}
-use Prim.Native.Nat.{ℕ, _≤_, _<_}
+use Prim.Native.Nat.{ℕ}
 use native.Mathlib.Omega.{arith}
 use borrow.Author.Tests.{lt-ltb, le-ltb, le-leb, lt-leb, eq-eqb, ne-eqb}
 use lib.Dec.{ltb, leb, eqb}
@@ -33,14 +33,14 @@ no-strand kind s =
 
 -- how many a kind has, by tests
 
-pub strands-none : (kind : ℕ) → 1 < kind → strands kind ≡ 0
+pub strands-none : (kind : ℕ) → known kind ≡ false → strands kind ≡ 0
 unfolding strands
-strands-none kind h = rw (lt-leb kind 1 h)
+strands-none kind h = rw h
 
-pub strands-both : (kind : ℕ) → kind ≤ 1 → stranded kind ≡ true → strands kind ≡ 2
+pub strands-both : (kind : ℕ) → known kind ≡ true → stranded kind ≡ true → strands kind ≡ 2
 unfolding strands
-strands-both kind h t = rw (le-leb kind 1 h, t)
+strands-both kind h t = rw (h, t)
 
-pub strands-own : (kind : ℕ) → kind ≤ 1 → stranded kind ≡ false → strands kind ≡ 1
+pub strands-own : (kind : ℕ) → known kind ≡ true → stranded kind ≡ false → strands kind ≡ 1
 unfolding strands
-strands-own kind h t = rw (le-leb kind 1 h, t)
+strands-own kind h t = rw (h, t)

@@ -1,7 +1,7 @@
 -- `ring::keys::key` meets its contract: a part of the room that the strand names.
 -- Assumes nothing.
 use borrow.Author.Needs.{needs}
-use Rattle.ring.proofs.Keyed.{Keyed}
+use Rattle.ring.specs.Calls.{WriteKeyCall}
 use Rattle.ring.proofs.KeyPart.{first-part, second-part}
 use Rattle.ring.proofs.keys.key.Statement.{statement}
 use Rattle.ring.proofs.keys.key.Tie as tie
@@ -12,8 +12,8 @@ use Rattle.ring.proofs.keys.write_key.Reads as write-key-reads
 abbrev Wrote : Type 0
 Wrote = lts.After-write-key (write-key-reads.Asked, write-key-reads.Learnt) reads.Pre reads.Post
 
-wrote : (c : Wrote) → Keyed (c .before .before .before .before .before .before .args .kind) (c .before .before .before .before .before .before .args .ring .now) (c .before .before .before .before .before .before .args .first .now) (c .before .before .before .before .before .before .args .second .now) (c .write-key .result) (c .write-key .last .1 .1 .0) (c .write-key .last .1 .1 .1 .0)
-wrote c = let e = c .write-key .ensures in record { marks = e .0; front = e .1 .0; back = e .1 .1 }
+wrote : (c : Wrote) → WriteKeyCall (c .before .before .before .before .before .before .args .ring .now) (c .before .before .before .before .before .before .args .kind) (c .before .before .before .before .before .before .args .first .now) (c .before .before .before .before .before .before .args .second .now) (c .write-key .result) (c .write-key .last .1 .1 .0) (c .write-key .last .1 .1 .1 .0)
+wrote c = let e = c .write-key .ensures in record { answer = e .0; front = e .1 .0; back = e .1 .1 }
 
 write-key-requires : tie.Need-write-key-requires
 write-key-requires c κs = search needs

@@ -10,8 +10,11 @@ number-of-requires c κs = search needs
 place-of-requires : tie.Need-place-of-requires
 place-of-requires c κs = search needs
 
+refusal-requires : tie.Need-refusal-requires
+refusal-requires c κs = search needs
+
 returns : tie.Need-returns
 returns c = cc
 
 pub refused-spec : {M : Type 1} → statement M
-refused-spec = tie.close (tie.spec number-of-requires place-of-requires returns)
+refused-spec = tie.close (tie.spec number-of-requires place-of-requires refusal-requires returns)

@@ -1,7 +1,7 @@
 -- `sheet::trailer::trailer` meets its contract. Each answer is the first rule that holds, by `Replies`.
 -- Assumes nothing.
 use mathlib.Core.Path.{sym, ap, _∙_}
-use Rattle.sheet.specs.Trailer.{two, wrongMarks}
+use Rattle.sheet.specs.Trailer.{wrongMarks}
 use Rattle.sheet.proofs.Replies.{rest-is, says-few, says-wrong, says-none, says-many, says-reach, pointed}
 use borrow.Author.Needs.{needs}
 use Rattle.sheet.proofs.trailer.trailer.Statement.{statement}
@@ -27,32 +27,32 @@ returns-2 c =
     let b = c .before .before .before .before .before .args .bytes .now in
     says-wrong b (c .before .before .before .if1 .left) (ap wrongMarks (sym (rest-is b)) ∙ sym (c .before .wrong .ensures) ∙ c .if2 .taken)
 
-pair-requires : tie.Need-pair-requires
-pair-requires c κs = search needs
+number-requires : tie.Need-number-requires
+number-requires c κs = search needs
 
 returns-3 : tie.Need-returns-3
 returns-3 c =
     let b = c .before .before .before .before .before .before .before .args .bytes .now in
-    says-none b (c .before .before .before .before .before .if1 .left) (ap wrongMarks (sym (rest-is b)) ∙ sym (c .before .before .before .wrong .ensures) ∙ c .before .before .if2 .left) (c .before .pair .result)
-    (c .before .pair .ensures ∙ ap (λ t. two t 0) (rest-is b)) (c .if3 .taken)
+    says-none b (c .before .before .before .before .before .if1 .left) (ap wrongMarks (sym (rest-is b)) ∙ sym (c .before .before .before .wrong .ensures) ∙ c .before .before .if2 .left) (c .before .number .result)
+    (c .before .number .ensures) (c .if3 .taken)
 
 returns-4 : tie.Need-returns-4
 returns-4 c =
     let b = c .before .before .before .before .before .before .before .before .args .bytes .now in
-    says-many b (c .before .before .before .before .before .before .if1 .left) (ap wrongMarks (sym (rest-is b)) ∙ sym (c .before .before .before .before .wrong .ensures) ∙ c .before .before .before .if2 .left) (c .before .before .pair .result)
-    (c .before .before .pair .ensures ∙ ap (λ t. two t 0) (rest-is b)) (c .before .if3 .left) (c .if4 .taken)
+    says-many b (c .before .before .before .before .before .before .if1 .left) (ap wrongMarks (sym (rest-is b)) ∙ sym (c .before .before .before .before .wrong .ensures) ∙ c .before .before .before .if2 .left) (c .before .before .number .result)
+    (c .before .before .number .ensures) (c .before .if3 .left) (c .if4 .taken)
 
 returns-5 : tie.Need-returns-5
 returns-5 c =
     let b = c .before .before .before .before .before .before .before .before .before .args .bytes .now in
-    says-reach b (c .before .before .before .before .before .before .before .if1 .left) (ap wrongMarks (sym (rest-is b)) ∙ sym (c .before .before .before .before .before .wrong .ensures) ∙ c .before .before .before .before .if2 .left) (c .before .before .before .pair .result)
-    (c .before .before .before .pair .ensures ∙ ap (λ t. two t 0) (rest-is b)) (c .before .before .if3 .left) (c .before .if4 .left) (c .if5 .taken)
+    says-reach b (c .before .before .before .before .before .before .before .if1 .left) (ap wrongMarks (sym (rest-is b)) ∙ sym (c .before .before .before .before .before .wrong .ensures) ∙ c .before .before .before .before .if2 .left) (c .before .before .before .number .result)
+    (c .before .before .before .number .ensures) (c .before .before .if3 .left) (c .before .if4 .left) (c .if5 .taken)
 
 lettered-requires : tie.Need-lettered-requires
 lettered-requires c κs =
     let b = c .before .before .before .before .before .before .before .before .before .args .bytes .now in
-    pointed b (c .before .before .before .before .before .before .before .if1 .left) (ap wrongMarks (sym (rest-is b)) ∙ sym (c .before .before .before .before .before .wrong .ensures) ∙ c .before .before .before .before .if2 .left) (c .before .before .before .pair .result)
-    (c .before .before .before .pair .ensures ∙ ap (λ t. two t 0) (rest-is b)) (c .before .before .if3 .left) (c .before .if4 .left) (c .if5 .left)
+    pointed b (c .before .before .before .before .before .before .before .if1 .left) (ap wrongMarks (sym (rest-is b)) ∙ sym (c .before .before .before .before .before .wrong .ensures) ∙ c .before .before .before .before .if2 .left) (c .before .before .before .number .result)
+    (c .before .before .before .number .ensures) (c .before .before .if3 .left) (c .before .if4 .left) (c .if5 .left)
 
 returns-6 : tie.Need-returns-6
 returns-6 c = search needs
@@ -67,7 +67,7 @@ trailer-spec =
     part-t-end
     wrong-requires
     returns-2
-    pair-requires
+    number-requires
     returns-3
     returns-4
     returns-5

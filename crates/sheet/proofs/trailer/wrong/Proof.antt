@@ -13,6 +13,9 @@ shared-slice-read-if1 c = search needs
 returns : tie.Need-returns
 returns c = sym (wrong-test (c .before .before .before .args .t .now) (tag-first (c .if1 .taken)))
 
+add-if2 : tie.Need-add-if2
+add-if2 c = search needs
+
 shared-slice-read-if2 : tie.Need-shared-slice-read-if2
 shared-slice-read-if2 c = search needs
 
@@ -37,6 +40,7 @@ wrong-spec =
     (tie.spec
     shared-slice-read-if1
     returns
+    add-if2
     shared-slice-read-if2
     returns-2
     shared-slice-read-strands-of

@@ -26,7 +26,8 @@ use Rattle.sheet.proofs.Books as books
 -- declines has changed nothing
 
 pub write-ruled : {w : List ℕ} {kind : ℕ} {room left : List ℕ} {r : Marked} → WriteCall w kind room r left
-    → AsRuled (Given kind w (length room < length w + trailerSize)) (r .number) (r .place) (r .n ∷ r .start ∷ r .strand ∷ []) (lent room left (r .n + trailerSize) ∷ [])
+    → AsRuled (Given kind w (length room < length w + trailerSize)) (r .number) (r .place) (r .n ∷ r .start ∷ r .strand ∷ [])
+    (lent room left (r .n + trailerSize) ∷ [])
 write-ruled {w} {kind} {room} c = rw (c .answer, c .leaves) (written-ruled kind w room)
 
 pub read-ruled : {b : List ℕ} {r : Entry} → ReadCall b r

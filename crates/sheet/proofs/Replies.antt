@@ -82,16 +82,22 @@ module _ (t : List ℕ) where
     right-kind = by-test (known (getD t kindAt 0)) (λ e. e) (λ e. absurd (n (no-kind e)))
 
   -- behind a right tag: the strand is none of the n that the kind has
-  pub wrong-strand : getD t tagAt 0 ≡ tagFirst → getD t (tagAt + 1) 0 ≡ tagLast → (n : ℕ) → n ≡ strands (getD t kindAt 0) → leb n (getD t strandAt 0) ≡ wrongMarks t
+  pub wrong-strand : getD t tagAt 0 ≡ tagFirst → getD t (tagAt + 1) 0 ≡ tagLast → (n : ℕ) → n ≡ strands (getD t kindAt 0)
+      → leb n (getD t strandAt 0) ≡ wrongMarks t
   unfolding wrongMarks
   wrong-strand x y n e =
-      ap (λ i. leb i (getD t strandAt 0)) e ∙ no-strand (getD t kindAt 0) (getD t strandAt 0) ∙ rw (eq-eqb (getD t tagAt 0) tagFirst x, eq-eqb (getD t (tagAt + 1) 0) tagLast y)
+      ap (λ i. leb i (getD t strandAt 0)) e ∙ no-strand (getD t kindAt 0) (getD t strandAt 0)
+      ∙ rw (eq-eqb (getD t tagAt 0) tagFirst x, eq-eqb (getD t (tagAt + 1) 0) tagLast y)
 
 -- ---- the rules of the trailer alone
 
--- the rest of the bytes that the code lends is the trailer
-pub rest-is : (b : List ℕ) → take (length b - (length b - trailerSize)) (drop (length b - trailerSize) b) ≡ trailer b
-rest-is b = take-all (length b - (length b - trailerSize)) (drop (length b - trailerSize) b) (rw length-drop (omega arith))
+-- the rest of the bytes that the code lends is the trailer: what is answered of it
+pub wrong-is : (b : List ℕ) (r t : Bool) → r ≡ wrongMarks (take (length b - (length b - trailerSize)) (drop (length b - trailerSize) b)) → r ≡ t
+    → wrongMarks (trailer b) ≡ t
+wrong-is b r t e f =
+    let n : ℕ = length b - (length b - trailerSize) in
+    let a : take n (trailer b) ≡ trailer b = take-all n (trailer b) (rw length-drop (omega arith)) in
+    ap wrongMarks (sym a) ∙ sym e ∙ f
 
 module _ (b : List ℕ) where
   pub says-few : length b < trailerSize → Refused 5 0 ≡ foundOf b
@@ -116,7 +122,13 @@ module _ (b : List ℕ) where
         pub says-reach : n ≤ most → length b - trailerSize < n → Refused 5 0 ≡ foundOf b
         unfolding foundOf
         says-reach h2 h =
-            rw (le-ltb (length b) trailerSize h5, h6, ne-eqb (wayBack b) 0 (λ z. h1 (e ∙ z)), le-ltb most (wayBack b) (omega arith), lt-ltb (length b - trailerSize) (wayBack b) (omega arith))
+            rw (
+              le-ltb (length b) trailerSize h5,
+              h6,
+              ne-eqb (wayBack b) 0 (λ z. h1 (e ∙ z)),
+              le-ltb most (wayBack b) (omega arith),
+              lt-ltb (length b - trailerSize) (wayBack b) (omega arith),
+            )
 
         pub pointed : n ≤ most → n ≤ length b - trailerSize → Pointed b (length b - trailerSize) n
         pointed h2 h = record { long = h5; right = h6; back = e; some = omega arith; within = h2; reach = h; here = refl }
@@ -143,7 +155,13 @@ module _ (b : List ℕ) (at n : ℕ) (p : Pointed b at n) where
   from-three : foundOf b ≡ judged (rule (ltb (badIn b) (length (marksIn b .letters))) (Refused 3 (badIn b)) ∷ notMade b ∷ []) (sheetIn b)
   unfolding foundOf
   from-three =
-      rw (le-ltb (length b) trailerSize (p .long), p .right, ne-eqb (wayBack b) 0 (omega (arith, p .back, p .some)), le-ltb most (wayBack b) (omega (arith, p .back, p .within)), le-ltb (length b - trailerSize) (wayBack b) (omega (arith, p .back, p .reach, p .here)))
+      rw (
+        le-ltb (length b) trailerSize (p .long),
+        p .right,
+        ne-eqb (wayBack b) 0 (omega (arith, p .back, p .some)),
+        le-ltb most (wayBack b) (omega (arith, p .back, p .within)),
+        le-ltb (length b - trailerSize) (wayBack b) (omega (arith, p .back, p .reach, p .here)),
+      )
 
   pub says-bad : badIn b < length (marksIn b .letters) → Refused 3 (badIn b) ≡ foundOf b
   says-bad h = sym (rw (lt-ltb (badIn b) (length (marksIn b .letters)) h) at from-three)

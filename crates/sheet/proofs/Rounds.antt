@@ -38,18 +38,21 @@ trailer-at : (a t : List ℕ) → length t ≡ trailerSize → trailer (a ++ t) 
 trailer-at a t e = drop-at a t (length (a ++ t) - trailerSize) (omega (arith, length-append a t))
 
 module _ (pre : List ℕ) (m : Marks) where
-  -- strand, kind and tag, which stand behind the two numbers
+  -- what stands behind a trailer's two numbers, and the trailer
   abbrev behind : List ℕ
   behind = m .strand ∷ m .kind ∷ tag
 
-  length-trailer : length (trailerOf (length (m .letters)) (m .start) (m .strand) (m .kind)) ≡ trailerSize
+  abbrev trailed : List ℕ
+  trailed = trailerOf (length (m .letters)) (m .start) (m .strand) (m .kind)
+
+  length-trailer : length trailed ≡ trailerSize
   length-trailer = length-two width (length (m .letters)) (m .start) behind
 
   length-bytes : length (pre ++ bytesOf m) ≡ length pre + length (m .letters) + trailerSize
-  length-bytes = omega (arith, length-append pre (bytesOf m), length-append (m .letters) (trailerOf (length (m .letters)) (m .start) (m .strand) (m .kind)), length-trailer)
+  length-bytes = omega (arith, length-append pre (bytesOf m), length-append (m .letters) trailed, length-trailer)
 
-  trailer-bytes : trailer (pre ++ bytesOf m) ≡ trailerOf (length (m .letters)) (m .start) (m .strand) (m .kind)
-  trailer-bytes = ap trailer (sym (append-assoc pre (m .letters) _)) ∙ trailer-at (pre ++ m .letters) _ length-trailer
+  trailer-bytes : trailer (pre ++ bytesOf m) ≡ trailed
+  trailer-bytes = ap trailer (sym (append-assoc pre (m .letters) trailed)) ∙ trailer-at (pre ++ m .letters) trailed length-trailer
 
   -- a number that the trailer holds is read back
   module _ (hn : length (m .letters) < base ^ width) where
@@ -79,8 +82,9 @@ marks kind w = record { number = 0; place = 0; n = length w; start = keyStart ki
 written-right : (n s kind : ℕ) (w : List ℕ) → known kind ≡ true → wrongMarks (trailerOf n s (strand kind w) kind) ≡ false
 unfolding wrongMarks
 written-right n s kind w k =
-    let at : (i : ℕ) → getD (trailerOf n s (strand kind w) kind) (strandAt + i) 0 ≡ getD (strand kind w ∷ kind ∷ tag) i 0 = more-at width n s (strand kind w ∷ kind ∷ tag) in
-    ap₂ (λ a b. wrongAs a b (getD (trailerOf n s (strand kind w) kind) kindAt 0) (getD (trailerOf n s (strand kind w) kind) strandAt 0)) (at 2) (at 3)
+    let t : List ℕ = trailerOf n s (strand kind w) kind in
+    let at : (i : ℕ) → getD t (strandAt + i) 0 ≡ getD (strand kind w ∷ kind ∷ tag) i 0 = more-at width n s (strand kind w ∷ kind ∷ tag) in
+    ap₂ (λ a b. wrongAs a b (getD t kindAt 0) (getD t strandAt 0)) (at 2) (at 3)
     ∙ ap₂ (wrongAs tagFirst tagLast) (at 1) (at 0) ∙ sym (no-strand kind (strand kind w)) ∙ lt-leb (strands kind) (strand kind w) (strand-below kind w k)
 
 pub size-written : (kind : ℕ) (w : List ℕ) → Permitted kind w → length (sheetOf kind w) ≡ length w + trailerSize
@@ -110,7 +114,8 @@ module _ (pre : List ℕ) (kind : ℕ) (w : List ℕ) (p : Permitted kind w) whe
 
   written-reaches : Reaches (pre ++ sheetOf kind w)
   written-reaches =
-      let n : length (pre ++ sheetOf kind w) ≡ length pre + (length w + trailerSize) = length-append pre (sheetOf kind w) ∙ ap (λ i. length pre + i) (size-written kind w p) in
+      let n : length (pre ++ sheetOf kind w) ≡ length pre + (length w + trailerSize) =
+      length-append pre (sheetOf kind w) ∙ ap (λ i. length pre + i) (size-written kind w p) in
       record {
         trailed = record { long = omega arith; right = test-right (trailer (pre ++ sheetOf kind w)) right-written };
         some = omega (arith, back-written, p .some);
@@ -132,8 +137,10 @@ module _ (pre : List ℕ) (kind : ℕ) (w : List ℕ) (p : Permitted kind w) whe
   unfolding sheetOf
   sheet-in =
       let m : Marks = marksOf kind w in
-      ap (λ (x : Marks). Sheet (wayBack (pre ++ sheetOf kind w)) (x .start) (x .strand) (x .kind) (at-end.before (pre ++ sheetOf kind w))) (marks-bytes pre m (size-held kind w p) (start-held kind w p))
-      ∙ ap₂ (λ n b. Sheet n (keyStart kind w) (strand kind w) kind b) (way-back pre m (size-held kind w p) ∙ length-key kind w (p .some)) (before-bytes pre m (size-held kind w p))
+      ap (λ (x : Marks). Sheet (wayBack (pre ++ sheetOf kind w)) (x .start) (x .strand) (x .kind) (at-end.before (pre ++ sheetOf kind w)))
+      (marks-bytes pre m (size-held kind w p) (start-held kind w p))
+      ∙ ap₂ (λ n b. Sheet n (keyStart kind w) (strand kind w) kind b)
+      (way-back pre m (size-held kind w p) ∙ length-key kind w (p .some)) (before-bytes pre m (size-held kind w p))
 
   -- behind whatever stands before, the sheet of a permitted ring is found
   pub found-written : foundOf (pre ++ sheetOf kind w) ≡ Sheet (length w) (keyStart kind w) (strand kind w) kind (length pre)
@@ -173,7 +180,8 @@ module _ (kind : ℕ) (w : List ℕ) (p : Permitted kind w) where
   write-leaves room m left c h =
       let t : writeVerdict kind w (length room) ≡ Taken = permitted-taken kind w _ p (le-ltb (length room) (length w + trailerSize) h) in (
         c .answer ∙ ap (λ v. markedAs v kind w) t,
-        ap (take (length w + trailerSize)) (c .leaves ∙ ap (λ v. after v (sheetOf kind w) room) t) ∙ take-at (sheetOf kind w) _ (length w + trailerSize) (size-written kind w p),
+        ap (take (length w + trailerSize)) (c .leaves ∙ ap (λ v. after v (sheetOf kind w) room) t)
+            ∙ take-at (sheetOf kind w) _ (length w + trailerSize) (size-written kind w p),
       )
 
   module _ (pre : List ℕ) where

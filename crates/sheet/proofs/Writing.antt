@@ -41,7 +41,8 @@ trailer-laid n start strand kind old one two h a b =
     let S : List ℕ = bytesIn width start in
     let l : Laid N old one = record { is = a; fits = omega (arith, length-in width n) } in
     let s : length one ≡ length old = laid-size N old one l in
-    laid-sets (N ++ S) (strand ∷ kind ∷ tag) old _ strandAt (laid-part N S old one two startAt l (length-in width n) (omega arith) (omega (arith, length-in width start)) b)
+    laid-sets (N ++ S) (strand ∷ kind ∷ tag) old _ strandAt
+    (laid-part N S old one two startAt l (length-in width n) (omega arith) (omega (arith, length-in width start)) b)
     (omega (arith, length-append N S, length-in width n, length-in width start)) h
 
 module _ (kind : ℕ) (w room : List ℕ) (m : Marked) (e : m ≡ markedOf kind w) where

@@ -55,8 +55,8 @@ returns-2 c =
     let k : tie.After-check = search needs in
     let l : tie.Else1 = search needs in
     let x : tie.After-number = search needs in
-    says-no-key (s .args .bytes .now) (s .args .at) (s .args .n) (s .pre) (k .check .result) (k .check .ensures) (l .if1 .left) (x .number .result) (x .number .ensures)
-    (sym (c .before .is-key .ensures) ∙ not-true _ (c .if2 .taken))
+    says-no-key (s .args .bytes .now) (s .args .at) (s .args .n) (s .pre) (k .check .result) (k .check .ensures) (l .if1 .left)
+    (x .number .result) (x .number .ensures) (sym (c .before .is-key .ensures) ∙ not-true _ (c .if2 .taken))
 
 returns-3 : tie.Need-returns-3
 returns-3 c =
@@ -64,8 +64,8 @@ returns-3 c =
     let k : tie.After-check = search needs in
     let l : tie.Else1 = search needs in
     let x : tie.After-number = search needs in
-    says-sheet (s .args .bytes .now) (s .args .at) (s .args .n) (s .pre) (k .check .result) (k .check .ensures) (l .if1 .left) (x .number .result) (x .number .ensures)
-    (sym (c .before .is-key .ensures) ∙ not-false _ (c .if2 .left))
+    says-sheet (s .args .bytes .now) (s .args .at) (s .args .n) (s .pre) (k .check .result) (k .check .ensures) (l .if1 .left)
+    (x .number .result) (x .number .ensures) (sym (c .before .is-key .ensures) ∙ not-false _ (c .if2 .left))
 
 pub lettered-spec : {M : Type 1} → statement M
 lettered-spec =

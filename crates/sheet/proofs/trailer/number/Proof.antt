@@ -27,7 +27,10 @@ shared-slice-read-x : tie.Need-shared-slice-read-x Inv-loop μ-loop
 shared-slice-read-x c = search needs
 
 cast-x : tie.Need-cast-x Inv-loop μ-loop
-cast-x c = omega (arith, c .shared-slice-known .given (c .before .before .before .args .at + (c .before .before .loop .i - 1)))
+cast-x c =
+    let s : tie.Start Inv-loop μ-loop = search needs in
+    let l : tie.At-loop Inv-loop μ-loop = search needs in
+    omega (arith, c .shared-slice-known .given (s .args .at + (l .loop .i - 1)))
 
 mul-x : tie.Need-mul-x Inv-loop μ-loop
 mul-x c = omega (arith, read-fits width _ _ _ _ (c .before .before .loop .inv) (c .before .loop-test .taken) (λ i. omega (arith, c .shared-slice-known .given i)))

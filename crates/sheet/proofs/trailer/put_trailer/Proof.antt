@@ -44,7 +44,8 @@ returns c =
     let s : tie.Start = search needs in
     let one : tie.After-put-number = search needs in
     let two : tie.After-put-number2 = search needs in
-    trailer-laid (s .args .n) (s .args .start) (s .args .strand) (s .args .kind) (s .args .room .now) _ _ (s .pre) (one .put-number .ensures) (two .put-number2 .ensures)
+    trailer-laid (s .args .n) (s .args .start) (s .args .strand) (s .args .kind) (s .args .room .now) _ _ (s .pre)
+    (one .put-number .ensures) (two .put-number2 .ensures)
 
 pub put-trailer-spec : {M : Type 1} → statement M
 put-trailer-spec =

@@ -48,7 +48,8 @@ put-trailer-requires c κs =
     let o : tie.Else1 = search needs in
     let f : tie.Else2 = search needs in
     let x : tie.After-write-reading = search needs in
-    let l = write-size (s .args .kind) (s .args .ring .now) (s .args .room .now) (k .mark .result) (k .mark .ensures) (o .if1 .left) (f .if2 .left) _ (x .write-reading .ensures .1) in
+    let l =
+    write-size (s .args .kind) (s .args .ring .now) (s .args .room .now) (k .mark .result) (k .mark .ensures) (o .if1 .left) (f .if2 .left) _ (x .write-reading .ensures .1) in
     simp (length-take, length-drop) (omega (arith, l, f .if2 .left))
 
 same-length : tie.Need-same-length
@@ -62,8 +63,8 @@ returns-3 c =
     let f : tie.Else2 = search needs in
     let x : tie.After-write-reading = search needs in
     let t : tie.After-put-trailer = search needs in
-    write-done (s .args .kind) (s .args .ring .now) (s .args .room .now) (k .mark .result) (k .mark .ensures) (o .if1 .left) (f .if2 .left) _ (x .write-reading .ensures .1) _
-    (t .put-trailer .ensures)
+    write-done (s .args .kind) (s .args .ring .now) (s .args .room .now) (k .mark .result) (k .mark .ensures) (o .if1 .left) (f .if2 .left) _
+    (x .write-reading .ensures .1) _ (t .put-trailer .ensures)
 
 pub write-spec : {M : Type 1} → statement M
 write-spec =

@@ -1,62 +1,45 @@
 -- What the reader takes ends in the very sheet that the writer makes for a deposit.
 -- Assumes nothing.
-use mathlib.Core.Path.{_≡_, refl, sym, ap, _∙_}
+use mathlib.Core.Path.{_≡_, sym, ap, _∙_}
 use mathlib.Core.List.{List, [], _∷_, _++_}
-use Prim.Native.Nat.{ℕ, _<_, _+_, _-_, _*_}
+use Prim.Native.Nat.{ℕ, _+_, _-_}
 use native.Mathlib.Omega.{arith}
-use lib.ListN.{length, take, drop, getD, length-drop, take-append-drop}
-use lib.Seq.{drop-drop, getD-drop}
+use lib.ListN.{length, take, drop, getD, length-drop, take-append-drop, drop-of-length-le}
+use lib.Seq.{drop-cons, drop-drop, getD-drop}
 use Rattle.ring.specs.Judging.{Permitted}
-use Rattle.sheet.specs.Sheet.{low, high, trailerOf, bytesOf, sheetOf}
-use Rattle.sheet.specs.Trailer.{Bytes, trailer, wayBack, before, marksIn, foundOf, numberOf}
+use Rattle.sheet.specs.Sheet.{bytesIn, width, tag, trailerSize, trailerOf, bytesOf, sheetOf}
+use Rattle.sheet.specs.Trailer.{Bytes, trailer, strandAt, kindAt, tagAt, wayBack, before, marksIn, foundOf, numberOf}
 use Rattle.sheet.specs.Demands.{Reaches}
+use Rattle.sheet.proofs.Widths.{two-back}
 use Rattle.sheet.proofs.Replies.{right-first, right-last}
 use Rattle.sheet.proofs.Numbers.{letters-size, taken-sheet}
 
 -- ---- the trailer's bytes
 
--- a list of eight
-eight : (t : List ℕ) → length t ≡ 8
-    → t ≡ getD t 0 0 ∷ getD t 1 0 ∷ getD t 2 0 ∷ getD t 3 0 ∷ getD t 4 0 ∷ getD t 5 0 ∷ getD t 6 0 ∷ getD t 7 0 ∷ []
-eight [] h = absurd (omega arith)
-eight (a ∷ []) h = absurd (omega arith)
-eight (a ∷ b ∷ []) h = absurd (omega arith)
-eight (a ∷ b ∷ c ∷ []) h = absurd (omega arith)
-eight (a ∷ b ∷ c ∷ d ∷ []) h = absurd (omega arith)
-eight (a ∷ b ∷ c ∷ d ∷ e ∷ []) h = absurd (omega arith)
-eight (a ∷ b ∷ c ∷ d ∷ e ∷ f ∷ []) h = absurd (omega arith)
-eight (a ∷ b ∷ c ∷ d ∷ e ∷ f ∷ g ∷ []) h = absurd (omega arith)
-eight (a ∷ b ∷ c ∷ d ∷ e ∷ f ∷ g ∷ i ∷ []) h = refl
-eight (a ∷ b ∷ c ∷ d ∷ e ∷ f ∷ g ∷ i ∷ j ∷ t) h = absurd (omega arith)
-
--- the bytes of a number of two bytes
-low-two : (a b : ℕ) → a < 256 → low (a + 256 * b) ≡ a
-low-two a b h = omega arith
-
-high-two : (a b : ℕ) → a < 256 → high (a + 256 * b) ≡ b
-high-two a b h = omega arith
+-- strand, kind and tag are what stands behind the two numbers
+marks-are : (t : List ℕ) → length t ≡ trailerSize
+    → drop strandAt t ≡ getD t strandAt 0 ∷ getD t kindAt 0 ∷ getD t tagAt 0 ∷ getD t (tagAt + 1) 0 ∷ []
+marks-are t h =
+    drop-cons t strandAt 0 (omega arith)
+    ∙ ap (λ x. getD t strandAt 0 ∷ x) (drop-cons t kindAt 0 (omega arith)
+    ∙ ap (λ x. getD t kindAt 0 ∷ x) (drop-cons t tagAt 0 (omega arith)
+    ∙ ap (λ x. getD t tagAt 0 ∷ x) (drop-cons t (tagAt + 1) 0 (omega arith)
+    ∙ ap (λ x. getD t (tagAt + 1) 0 ∷ x) (drop-of-length-le t {i = trailerSize} (omega arith)))))
 
 module _ (b : List ℕ) (r : Reaches b) where
   trailer-is : Bytes b → trailer b ≡ trailerOf (length (marksIn b .letters)) (marksIn b .start) (marksIn b .strand) (marksIn b .kind)
   trailer-is y =
       let t : List ℕ = trailer b in
-      let z : (i : ℕ) → getD t i 0 < 256 = λ i. rw getD-drop (y _) in
-      let e : t ≡ getD t 0 0 ∷ getD t 1 0 ∷ getD t 2 0 ∷ getD t 3 0 ∷ getD t 4 0 ∷ getD t 5 0 ∷ getD t 6 0 ∷ getD t 7 0 ∷ [] =
-      eight t (length-drop (length b - 8) b ∙ omega (arith, r .trailed .long)) in
-      e ∙ cc (
-        letters-size b r,
-        low-two (getD t 0 0) (getD t 1 0) (z 0),
-        high-two (getD t 0 0) (getD t 1 0) (z 0),
-        low-two (getD t 2 0) (getD t 3 0) (z 2),
-        high-two (getD t 2 0) (getD t 3 0) (z 2),
-        right-first t (r .trailed .right),
-        right-last t (r .trailed .right),
-      )
+      let l : length t ≡ trailerSize = length-drop (length b - trailerSize) b ∙ omega (arith, r .trailed .long) in
+      let g : getD t tagAt 0 ∷ getD t (tagAt + 1) 0 ∷ [] ≡ tag = cc (right-first t (r .trailed .right), right-last t (r .trailed .right)) in
+      sym (two-back width t (omega arith) (λ i. rw getD-drop (y _)))
+      ∙ ap (λ x. bytesIn width (wayBack b) ++ bytesIn width (marksIn b .start) ++ x) (marks-are t l ∙ ap (λ x. getD t strandAt 0 ∷ getD t kindAt 0 ∷ x) g)
+      ∙ ap (λ n. trailerOf n (marksIn b .start) (marksIn b .strand) (marksIn b .kind)) (sym (letters-size b r))
 
   -- the bytes from the first letter on are those of the letters and marks read
   sheet-bytes : Bytes b → drop (before b) b ≡ bytesOf (marksIn b)
   sheet-bytes y =
-      let e : before b + wayBack b ≡ length b - 8 = omega (arith, r .reach) in
+      let e : before b + wayBack b ≡ length b - trailerSize = omega (arith, r .reach) in
       sym (take-append-drop (wayBack b) (drop (before b) b))
       ∙ ap (λ t. marksIn b .letters ++ t) (drop-drop (wayBack b) (before b) b ∙ ap (λ i. drop i b) e ∙ trailer-is y)
 

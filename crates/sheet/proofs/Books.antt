@@ -13,7 +13,7 @@ use Rattle.words.specs.Strand.{strand, keyStart}
 use Rattle.words.proofs.Search.{by-test, either, lt-or-ge}
 use Rattle.sheet.specs.declared.answer.Found.{Found}
 use Rattle.sheet.specs.declared.answer.Found.the-variants.{Sheet, Refused}
-use Rattle.sheet.specs.Sheet.{Written, sheetOf}
+use Rattle.sheet.specs.Sheet.{trailerSize, Written, sheetOf}
 use Rattle.sheet.specs.Trailer.{Bytes, foundOf, numberOf}
 use Rattle.sheet.specs.Book.{joined, Walk, through, stopped, stepAs, walkBack, walkOf, walkedAs, walkedOf}
 use Rattle.sheet.specs.Demands.{SheetGiven, AllWritten, BookGiven, sheets, stops, Holds}
@@ -31,7 +31,7 @@ pub walk-step : (f : ℕ) (book : List ℕ) (ss : List (List ℕ)) (r : Found) �
     → walkBack (suc f) book ss ≡ stepAs r (λ bf. walkBack f (take bf book) (drop bf book ∷ ss))
 walk-step f book ss r h e = rw (ne-eqb (length book) 0 (omega arith), e)
 
-written-long : (s : List ℕ) → Written s → 8 ≤ length s
+written-long : (s : List ℕ) → Written s → trailerSize ≤ length s
 written-long s r = omega (arith, ap length (r .is), size-written (r .kind) (r .deposit) (r .permitted))
 
 -- the sheet nearest the end is found, and what stands before it is walked next

@@ -11,7 +11,7 @@ use Rattle.ring.specs.Judging.{Permitted, Given}
 use Rattle.ring.specs.Demands.{AsRuled, lent}
 use Rattle.sheet.specs.declared.answer.Entry.{Entry}
 use Rattle.sheet.specs.declared.answer.Walked.{Walked}
-use Rattle.sheet.specs.Sheet.{sheetOf}
+use Rattle.sheet.specs.Sheet.{trailerSize, sheetOf}
 use Rattle.sheet.specs.Trailer.{wayBack, foundOf}
 use Rattle.sheet.specs.Reader.{entryOf}
 use Rattle.sheet.specs.Book.{joined, walkOf, walkedAs}
@@ -26,7 +26,8 @@ use Rattle.sheet.proofs.Books as books
 -- declines has changed nothing
 
 pub write-ruled : {w : List ℕ} {kind : ℕ} {room left : List ℕ} {r : Marked} → WriteCall w kind room r left
-    → AsRuled (Given kind w (length room < length w + 8)) (r .number) (r .place) (r .n ∷ r .start ∷ r .strand ∷ []) (lent room left (r .n + 8) ∷ [])
+    → AsRuled (Given kind w (length room < length w + trailerSize)) (r .number) (r .place) (r .n ∷ r .start ∷ r .strand ∷ [])
+    (lent room left (r .n + trailerSize) ∷ [])
 write-ruled {w} {kind} {room} c = rw (c .answer, c .leaves) (written-ruled kind w room)
 
 pub read-ruled : {b : List ℕ} {r : Entry} → ReadCall b r
@@ -63,8 +64,8 @@ walk-nothing c = walk-counts c [] tt refl
 
 -- whatever stands before it, what `write` leaves is read to its marks, kind, key and deposit
 pub round-trip : {kind : ℕ} {w pre b room left room2 left2 part : List ℕ} {m : Marked} {r : Entry} {o : Checked} {p at : ℕ × ℕ}
-    → Permitted kind w → length w + 8 ≤ length room → WriteCall w kind room m left
-    → b ≡ pre ++ take (length w + 8) left → ReadCall b r → LettersCall b p part at
+    → Permitted kind w → length w + trailerSize ≤ length room → WriteCall w kind room m left
+    → b ≡ pre ++ take (length w + trailerSize) left → ReadCall b r → LettersCall b p part at
     → length w ≤ length room2 → OriginalCall b room2 o left2 → RoundTrip kind w pre m r part o left2
 round-trip {kind} {w} {pre} {b} {room} {left} {room2} {left2} {part} {m} {r} {o} {p} {at} permitted h c e d l k f =
     let x = write-leaves kind w permitted room m left c h in

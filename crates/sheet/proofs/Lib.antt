@@ -4,6 +4,7 @@ pub mod Contracts
 pub mod Determined
 pub mod Examples
 -- The laws that they and the functions' proofs cite
+pub mod Widths
 pub mod Replies
 pub mod Numbers
 pub mod Told

@@ -17,7 +17,7 @@ use Rattle.ring.proofs.Exactly.{bad-here, good-before, good-all, good-at, bad-i
 use Rattle.ring.proofs.Deposit.{passes-permitted, passes-key, passes-start, passes-strand, ring-passes}
 use Rattle.sheet.specs.declared.answer.Found.{Found}
 use Rattle.sheet.specs.declared.answer.Found.the-variants.{Sheet, Refused}
-use Rattle.sheet.specs.Sheet.{Marks, marksOf, depositOf, isMade}
+use Rattle.sheet.specs.Sheet.{Marks, trailerSize, marksOf, depositOf, isMade}
 use Rattle.sheet.specs.Trailer.{trailer, wayBack, marksIn, wrongMarks, badIn, Pointed, sheetRules, sheetIn, foundOf, numberOf, placeOf}
 use Rattle.sheet.specs.Reader.{restoredOf}
 use Rattle.sheet.specs.Demands.{Trailed, Reaches, Lettered, Made, SheetGiven, few, wrong, none, many, far, letter, unmade, sheet, OriginalGiven, as-read, lacking, done}
@@ -56,12 +56,12 @@ made-test b m = subst (λ x. isMade x ≡ true) (m .is) (ring-passes (m .kind) (
 -- ---- what is found
 
 module _ (b : List ℕ) where
-  reach-pointed : Reaches b → Pointed b (length b - 8) (wayBack b)
+  reach-pointed : Reaches b → Pointed b (length b - trailerSize) (wayBack b)
   reach-pointed r =
       pointed b (r .trailed .long) (right-test (trailer b) (r .trailed .right)) (wayBack b) refl (λ e. omega (arith, r .some)) (r .within) (r .reach)
 
   pub letters-size : Reaches b → length (marksIn b .letters) ≡ wayBack b
-  letters-size r = length-letters b (length b - 8) (wayBack b) (reach-pointed r)
+  letters-size r = length-letters b (length b - trailerSize) (wayBack b) (reach-pointed r)
 
   -- every letter is one: the first that is none is not there
   no-bad : Lettered b → ltb (badIn b) (length (marksIn b .letters)) ≡ false
@@ -70,15 +70,15 @@ module _ (b : List ℕ) where
       (good-all (marksIn b .kind) (marksIn b .letters) (λ i h. l .letters i (omega (arith, letters-size (l .reaches)))))
 
   pub sheet-found : Lettered b → Made b → sheetIn b ≡ foundOf b
-  sheet-found l m = says-made b (length b - 8) (wayBack b) (reach-pointed (l .reaches)) (no-bad l) (made-test b m)
+  sheet-found l m = says-made b (length b - trailerSize) (wayBack b) (reach-pointed (l .reaches)) (no-bad l) (made-test b m)
 
   unmade-found : Lettered b → (Made b → ⊥) → Refused 7 0 ≡ foundOf b
   unmade-found l n =
-      says-unmade b (length b - 8) (wayBack b) (reach-pointed (l .reaches)) (no-bad l)
+      says-unmade b (length b - trailerSize) (wayBack b) (reach-pointed (l .reaches)) (no-bad l)
       (by-test (isMade (marksIn b)) (λ t. absurd (n (test-made b t))) (λ t. t))
 
   bad-found : (r : Reaches b) → badIn b < wayBack b → Refused 3 (badIn b) ≡ foundOf b
-  bad-found r h = says-bad b (length b - 8) (wayBack b) (reach-pointed r) (omega (arith, letters-size r))
+  bad-found r h = says-bad b (length b - trailerSize) (wayBack b) (reach-pointed r) (omega (arith, letters-size r))
 
   told : {f : Found} → f ≡ foundOf b → (numberOf (foundOf b) ≡ numberOf f) × (placeOf (foundOf b) ≡ placeOf f)
   told e = (ap numberOf (sym e), ap placeOf (sym e))
@@ -115,13 +115,13 @@ module _ (b : List ℕ) where
       either (lt-or-ge 0 (wayBack b))
       (λ s. let z : wayBack b ≡ 0 → ⊥ = λ e. omega arith in
       either (lt-or-ge most (wayBack b)) (λ h. subst Gives (says-many b (t .long) w (wayBack b) refl z h) (many t h))
-      (λ m. either (lt-or-ge (length b - 8) (wayBack b)) (λ h. subst Gives (says-reach b (t .long) w (wayBack b) refl z m h) (far t s m h))
+      (λ m. either (lt-or-ge (length b - trailerSize) (wayBack b)) (λ h. subst Gives (says-reach b (t .long) w (wayBack b) refl z m h) (far t s m h))
       (λ h. by-letters (record { trailed = t; some = s; within = m; reach = h }))))
       (λ s. let z : wayBack b ≡ 0 = omega arith in subst Gives (says-none b (t .long) w (wayBack b) refl z) (none t z))
 
   pub found-given : Gives (foundOf b)
   found-given =
-      either (lt-or-ge (length b) 8) (λ h. subst Gives (says-few b h) (few h))
+      either (lt-or-ge (length b) trailerSize) (λ h. subst Gives (says-few b h) (few h))
       (λ h. by-test (wrongMarks (trailer b)) (λ w. subst Gives (says-wrong b h w) (wrong h (test-wrong (trailer b) w)))
       (λ w. by-back (record { long = h; right = test-right (trailer b) w }) w))
 

@@ -2,11 +2,11 @@
 -- Assumes nothing.
 use mathlib.Core.Path.{_≡_, refl, sym, ap, ap₂, _∙_, subst}
 use mathlib.Core.Bool.{true, false}
-use mathlib.Core.List.{List, [], _++_, append-assoc}
-use Prim.Native.Nat.{ℕ, _≤_, _<_, _+_, _-_, _*_}
+use mathlib.Core.List.{List, [], _∷_, _++_, append-assoc}
+use Prim.Native.Nat.{ℕ, _≤_, _<_, _+_, _-_, _^_}
 use native.Mathlib.Omega.{arith}
 use borrow.Author.Tests.{lt-leb, le-ltb}
-use lib.ListN.{length, take, getD, length-append}
+use lib.ListN.{length, take, drop, getD, length-append}
 use lib.Seq.{take-at, drop-at}
 use Rattle.words.specs.Kind.{known, isLetter, strands}
 use Rattle.words.specs.Strand.{strand, keyStart, key}
@@ -19,48 +19,59 @@ use Rattle.ring.specs.Judging.{Permitted, over, after}
 use Rattle.ring.specs.Answers.{markedAs}
 use Rattle.ring.proofs.Exactly.{permitted-taken}
 use Rattle.ring.proofs.Compared.{length-key}
-use Rattle.ring.proofs.Deposit.{deposit-back, permitted-key}
+use Rattle.ring.proofs.Deposit.{deposit-back, permitted-key, start-below}
 use Rattle.sheet.specs.declared.answer.Found.the-variants.{Sheet}
 use Rattle.sheet.specs.declared.answer.Entry.{Entry}
-use Rattle.sheet.specs.Sheet.{Marks, low, high, trailerOf, bytesOf, marksOf, sheetOf, depositOf, writeVerdict}
-use Rattle.sheet.specs.Trailer.{trailer, two, wayBack, marksIn, wrongMarks, sheetIn, foundOf, numberOf}
+use Rattle.sheet.specs.Sheet.{Marks, base, numberIn, width, tagFirst, tagLast, tag, trailerSize, trailerOf, bytesOf, marksOf, sheetOf, depositOf, writeVerdict}
+use Rattle.sheet.specs.Trailer.{trailer, startAt, strandAt, kindAt, wayBack, marksIn, wrongAs, wrongMarks, sheetIn, foundOf, numberOf}
 use Rattle.sheet.specs.Trailer as at-end
 use Rattle.sheet.specs.Reader.{entryAs, entryOf, partAs, partOf, restoredOf, originalOf, roomAs, originalRoom}
 use Rattle.sheet.specs.Calls.{WriteCall, LettersCall, OriginalCall}
 use Rattle.sheet.specs.Demands.{Reaches, Lettered, Made, RoundTrip, Accepted}
+use Rattle.sheet.proofs.Widths.{length-two, first-back, second-back, more-at}
 use Rattle.sheet.proofs.Replies.{test-right}
 use Rattle.sheet.proofs.Numbers.{marks-path, sheet-found, restored-done}
 
 -- ---- bytes that end in those of letters and marks
 
-trailer-at : (a t : List ℕ) → length t ≡ 8 → trailer (a ++ t) ≡ t
-trailer-at a t e = drop-at a t (length (a ++ t) - 8) (omega (arith, length-append a t))
-
--- two bytes of a number give it back
-two-back : (x : ℕ) → low x + 256 * high x ≡ x
-two-back x = omega arith
+trailer-at : (a t : List ℕ) → length t ≡ trailerSize → trailer (a ++ t) ≡ t
+trailer-at a t e = drop-at a t (length (a ++ t) - trailerSize) (omega (arith, length-append a t))
 
 module _ (pre : List ℕ) (m : Marks) where
-  length-bytes : length (pre ++ bytesOf m) ≡ length pre + length (m .letters) + 8
-  length-bytes = rw (length-append, length-append) (omega arith)
+  -- what stands behind a trailer's two numbers, and the trailer
+  abbrev behind : List ℕ
+  behind = m .strand ∷ m .kind ∷ tag
 
-  trailer-bytes : trailer (pre ++ bytesOf m) ≡ trailerOf (length (m .letters)) (m .start) (m .strand) (m .kind)
-  trailer-bytes = ap trailer (sym (append-assoc pre (m .letters) _)) ∙ trailer-at (pre ++ m .letters) _ refl
+  abbrev trailed : List ℕ
+  trailed = trailerOf (length (m .letters)) (m .start) (m .strand) (m .kind)
 
-  way-back : wayBack (pre ++ bytesOf m) ≡ length (m .letters)
-  way-back = ap (λ t. two t 0) trailer-bytes ∙ two-back (length (m .letters))
+  length-trailer : length trailed ≡ trailerSize
+  length-trailer = length-two width (length (m .letters)) (m .start) behind
 
-  before-bytes : at-end.before (pre ++ bytesOf m) ≡ length pre
-  before-bytes = omega (arith, length-bytes, way-back)
+  length-bytes : length (pre ++ bytesOf m) ≡ length pre + length (m .letters) + trailerSize
+  length-bytes = omega (arith, length-append pre (bytesOf m), length-append (m .letters) trailed, length-trailer)
 
-  letters-bytes : marksIn (pre ++ bytesOf m) .letters ≡ m .letters
-  letters-bytes = rw (before-bytes, way-back, drop-at pre (bytesOf m) (length pre) refl, take-at (m .letters) _ (length (m .letters)) refl)
+  trailer-bytes : trailer (pre ++ bytesOf m) ≡ trailed
+  trailer-bytes = ap trailer (sym (append-assoc pre (m .letters) trailed)) ∙ trailer-at (pre ++ m .letters) trailed length-trailer
 
-  -- the marks read are the marks written
-  marks-bytes : marksIn (pre ++ bytesOf m) ≡ m
-  marks-bytes =
-      marks-path (marksIn (pre ++ bytesOf m)) m letters-bytes (ap (λ t. two t 2) trailer-bytes ∙ two-back (m .start))
-      (ap (λ t. getD t 4 0) trailer-bytes) (ap (λ t. getD t 5 0) trailer-bytes)
+  -- a number that the trailer holds is read back
+  module _ (hn : length (m .letters) < base ^ width) where
+    way-back : wayBack (pre ++ bytesOf m) ≡ length (m .letters)
+    way-back = ap (numberIn width) trailer-bytes ∙ first-back width (length (m .letters)) (m .start) behind hn
+
+    before-bytes : at-end.before (pre ++ bytesOf m) ≡ length pre
+    before-bytes = omega (arith, length-bytes, way-back)
+
+    letters-bytes : marksIn (pre ++ bytesOf m) .letters ≡ m .letters
+    letters-bytes = rw (before-bytes, way-back, drop-at pre (bytesOf m) (length pre) refl, take-at (m .letters) _ (length (m .letters)) refl)
+
+    -- the marks read are the marks written
+    marks-bytes : m .start < base ^ width → marksIn (pre ++ bytesOf m) ≡ m
+    marks-bytes hs =
+        let at : (i : ℕ) → getD (trailer (pre ++ bytesOf m)) (strandAt + i) 0 ≡ getD behind i 0 =
+        λ i. ap (λ t. getD t (strandAt + i) 0) trailer-bytes ∙ more-at width (length (m .letters)) (m .start) behind i in
+        marks-path (marksIn (pre ++ bytesOf m)) m letters-bytes
+        (ap (λ t. numberIn width (drop startAt t)) trailer-bytes ∙ second-back width (length (m .letters)) (m .start) behind hs) (at 0) (at 1)
 
 -- ---- what the writer makes, read
 
@@ -70,20 +81,32 @@ marks kind w = record { number = 0; place = 0; n = length w; start = keyStart ki
 
 written-right : (n s kind : ℕ) (w : List ℕ) → known kind ≡ true → wrongMarks (trailerOf n s (strand kind w) kind) ≡ false
 unfolding wrongMarks
-written-right n s kind w k = sym (no-strand kind (strand kind w)) ∙ lt-leb (strands kind) (strand kind w) (strand-below kind w k)
+written-right n s kind w k =
+    let t : List ℕ = trailerOf n s (strand kind w) kind in
+    let at : (i : ℕ) → getD t (strandAt + i) 0 ≡ getD (strand kind w ∷ kind ∷ tag) i 0 = more-at width n s (strand kind w ∷ kind ∷ tag) in
+    ap₂ (λ a b. wrongAs a b (getD t kindAt 0) (getD t strandAt 0)) (at 2) (at 3)
+    ∙ ap₂ (wrongAs tagFirst tagLast) (at 1) (at 0) ∙ sym (no-strand kind (strand kind w)) ∙ lt-leb (strands kind) (strand kind w) (strand-below kind w k)
 
-pub size-written : (kind : ℕ) (w : List ℕ) → Permitted kind w → length (sheetOf kind w) ≡ length w + 8
+pub size-written : (kind : ℕ) (w : List ℕ) → Permitted kind w → length (sheetOf kind w) ≡ length w + trailerSize
 unfolding sheetOf
 size-written kind w p = omega (arith, length-bytes [] (marksOf kind w), length-key kind w (p .some))
+
+-- the numbers of a permitted ring are held in a trailer's
+module _ (kind : ℕ) (w : List ℕ) (p : Permitted kind w) where
+  size-held : length (key kind w) < base ^ width
+  size-held = omega (arith, length-key kind w (p .some), p .within)
+
+  start-held : keyStart kind w < base ^ width
+  start-held = omega (arith, start-below kind w (p .some), p .within)
 
 module _ (pre : List ℕ) (kind : ℕ) (w : List ℕ) (p : Permitted kind w) where
   back-written : wayBack (pre ++ sheetOf kind w) ≡ length w
   unfolding sheetOf
-  back-written = way-back pre (marksOf kind w) ∙ length-key kind w (p .some)
+  back-written = way-back pre (marksOf kind w) (size-held kind w p) ∙ length-key kind w (p .some)
 
   marks-written : marksIn (pre ++ sheetOf kind w) ≡ marksOf kind w
   unfolding sheetOf
-  marks-written = marks-bytes pre (marksOf kind w)
+  marks-written = marks-bytes pre (marksOf kind w) (size-held kind w p) (start-held kind w p)
 
   right-written : wrongMarks (trailer (pre ++ sheetOf kind w)) ≡ false
   unfolding sheetOf
@@ -91,7 +114,8 @@ module _ (pre : List ℕ) (kind : ℕ) (w : List ℕ) (p : Permitted kind w) whe
 
   written-reaches : Reaches (pre ++ sheetOf kind w)
   written-reaches =
-      let n : length (pre ++ sheetOf kind w) ≡ length pre + (length w + 8) = length-append pre (sheetOf kind w) ∙ ap (λ i. length pre + i) (size-written kind w p) in
+      let n : length (pre ++ sheetOf kind w) ≡ length pre + (length w + trailerSize) =
+      length-append pre (sheetOf kind w) ∙ ap (λ i. length pre + i) (size-written kind w p) in
       record {
         trailed = record { long = omega arith; right = test-right (trailer (pre ++ sheetOf kind w)) right-written };
         some = omega (arith, back-written, p .some);
@@ -113,8 +137,10 @@ module _ (pre : List ℕ) (kind : ℕ) (w : List ℕ) (p : Permitted kind w) whe
   unfolding sheetOf
   sheet-in =
       let m : Marks = marksOf kind w in
-      ap (λ (x : Marks). Sheet (wayBack (pre ++ sheetOf kind w)) (x .start) (x .strand) (x .kind) (at-end.before (pre ++ sheetOf kind w))) (marks-bytes pre m)
-      ∙ ap₂ (λ n b. Sheet n (keyStart kind w) (strand kind w) kind b) (way-back pre m ∙ length-key kind w (p .some)) (before-bytes pre m)
+      ap (λ (x : Marks). Sheet (wayBack (pre ++ sheetOf kind w)) (x .start) (x .strand) (x .kind) (at-end.before (pre ++ sheetOf kind w)))
+      (marks-bytes pre m (size-held kind w p) (start-held kind w p))
+      ∙ ap₂ (λ n b. Sheet n (keyStart kind w) (strand kind w) kind b)
+      (way-back pre m (size-held kind w p) ∙ length-key kind w (p .some)) (before-bytes pre m (size-held kind w p))
 
   -- behind whatever stands before, the sheet of a permitted ring is found
   pub found-written : foundOf (pre ++ sheetOf kind w) ≡ Sheet (length w) (keyStart kind w) (strand kind w) kind (length pre)
@@ -149,12 +175,13 @@ module _ (pre : List ℕ) (kind : ℕ) (w : List ℕ) (p : Permitted kind w) whe
 
 module _ (kind : ℕ) (w : List ℕ) (p : Permitted kind w) where
   -- `write` leaves the sheet
-  pub write-leaves : (room : List ℕ) (m : Marked) (left : List ℕ) → WriteCall w kind room m left → length w + 8 ≤ length room
-      → (m ≡ marks kind w) × (take (length w + 8) left ≡ sheetOf kind w)
+  pub write-leaves : (room : List ℕ) (m : Marked) (left : List ℕ) → WriteCall w kind room m left → length w + trailerSize ≤ length room
+      → (m ≡ marks kind w) × (take (length w + trailerSize) left ≡ sheetOf kind w)
   write-leaves room m left c h =
-      let t : writeVerdict kind w (length room) ≡ Taken = permitted-taken kind w _ p (le-ltb (length room) (length w + 8) h) in (
+      let t : writeVerdict kind w (length room) ≡ Taken = permitted-taken kind w _ p (le-ltb (length room) (length w + trailerSize) h) in (
         c .answer ∙ ap (λ v. markedAs v kind w) t,
-        ap (take (length w + 8)) (c .leaves ∙ ap (λ v. after v (sheetOf kind w) room) t) ∙ take-at (sheetOf kind w) _ (length w + 8) (size-written kind w p),
+        ap (take (length w + trailerSize)) (c .leaves ∙ ap (λ v. after v (sheetOf kind w) room) t)
+            ∙ take-at (sheetOf kind w) _ (length w + trailerSize) (size-written kind w p),
       )
 
   module _ (pre : List ℕ) where

@@ -18,7 +18,7 @@ use Rattle.ring.proofs.Deposit.{deposit-back}
 use Rattle.ring.proofs.Numbers.{ruled, too-few, left-alone, written-beyond}
 use Rattle.sheet.specs.declared.answer.Found.{Found}
 use Rattle.sheet.specs.declared.answer.Found.the-variants.{Sheet, Refused}
-use Rattle.sheet.specs.Sheet.{Marks, sheetOf, depositOf, writeVerdict, writtenOf, writtenRoom}
+use Rattle.sheet.specs.Sheet.{Marks, trailerSize, sheetOf, depositOf, writeVerdict, writtenOf, writtenRoom}
 use Rattle.sheet.specs.Trailer.{wayBack, marksIn, foundOf}
 use Rattle.sheet.specs.Trailer as at-end
 use Rattle.sheet.specs.Reader.{entryAs, entryOf, partAs, restoredOf, originalOf, roomAs, originalRoom}
@@ -30,18 +30,18 @@ use Rattle.sheet.proofs.Rounds.{size-written}
 -- ---- the writer
 
 module _ (kind : ℕ) (w room : List ℕ) where
-  -- done, it has written n + 8 bytes, and they were there
+  -- done, it has written n bytes and the trailer's, and they were there
   done-size : taken (writeVerdict kind w (length room)) ≡ true
-      → (writtenOf kind w (length room) .n + 8 ≡ length (sheetOf kind w)) × (writtenOf kind w (length room) .n + 8 ≤ length room)
+      → (writtenOf kind w (length room) .n + trailerSize ≡ length (sheetOf kind w)) × (writtenOf kind w (length room) .n + trailerSize ≤ length room)
   done-size t =
-      let p = taken-permitted kind w (ltb (length room) (length w + 8)) (taken-is _ t) in
-      rw t (sym (size-written kind w (p .0)), ltb-false (length room) (length w + 8) (p .1))
+      let p = taken-permitted kind w (ltb (length room) (length w + trailerSize)) (taken-is _ t) in
+      rw t (sym (size-written kind w (p .0)), ltb-false (length room) (length w + trailerSize) (p .1))
 
-  pub written-ruled : AsRuled (Given kind w (length room < length w + 8)) (writtenOf kind w (length room) .number) (writtenOf kind w (length room) .place)
+  pub written-ruled : AsRuled (Given kind w (length room < length w + trailerSize)) (writtenOf kind w (length room) .number) (writtenOf kind w (length room) .place)
       (writtenOf kind w (length room) .n ∷ writtenOf kind w (length room) .start ∷ writtenOf kind w (length room) .strand ∷ [])
-      (lent room (writtenRoom kind w room) (writtenOf kind w (length room) .n + 8) ∷ [])
+      (lent room (writtenRoom kind w room) (writtenOf kind w (length room) .n + trailerSize) ∷ [])
   written-ruled =
-      ruled kind w (ltb (length room) (length w + 8)) (too-few (length room) (length w + 8)) _ _
+      ruled kind w (ltb (length room) (length w + trailerSize)) (too-few (length room) (length w + trailerSize)) _ _
       (λ t. ((rw t, (rw t, (rw t, tt))), (left-alone (writeVerdict kind w (length room)) (sheetOf kind w) room t, tt)))
       (λ t. (written-beyond (writeVerdict kind w (length room)) (sheetOf kind w) room _ (done-size t .0) (done-size t .1) t, tt))
 

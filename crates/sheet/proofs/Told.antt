@@ -12,7 +12,7 @@ use Rattle.ring.specs.Judging.{over}
 use Rattle.ring.specs.Answers.{fewer, wroteOf, wroteRoom, deposit}
 use Rattle.ring.proofs.Deposit.{passes-below, deposit-other, deposit-own}
 use Rattle.sheet.specs.declared.answer.Found.the-variants.{Sheet, Refused}
-use Rattle.sheet.specs.Sheet.{depositOf}
+use Rattle.sheet.specs.Sheet.{trailerSize, depositOf}
 use Rattle.sheet.specs.Trailer.{wayBack, before, marksIn, sheetIn, foundOf, numberOf}
 use Rattle.sheet.specs.Reader.{partAs, partOf, restoredOf, originalOf, restoredIn, originalRoom}
 use Rattle.sheet.proofs.Numbers.{made-test, letters-size, sheet-found, taken-sheet, restored-refused, restored-taken}
@@ -38,27 +38,27 @@ module _ (b : List ℕ) (n s σ k bf : ℕ) (e : Sheet n s σ k bf ≡ foundOf b
   told-before : bf ≡ before b
   told-before = let h = told-in in cc
 
-  pub told-long : 8 ≤ length b
+  pub told-long : trailerSize ≤ length b
   told-long = taken-sheet b told-done .0 .reaches .trailed .long
 
-  told-reach : wayBack b ≤ length b - 8
+  told-reach : wayBack b ≤ length b - trailerSize
   told-reach = taken-sheet b told-done .0 .reaches .reach
 
-  pub told-within : bf ≤ length b - 8
+  pub told-within : bf ≤ length b - trailerSize
   told-within = omega (arith, told-before)
 
   -- the part that the code lends is the letters
-  pub told-part : take (length b - 8 - bf) (drop bf b) ≡ marksIn b .letters
+  pub told-part : take (length b - trailerSize - bf) (drop bf b) ≡ marksIn b .letters
   told-part =
-      let f : length b - 8 - bf ≡ wayBack b = omega (arith, told-before, told-reach) in
+      let f : length b - trailerSize - bf ≡ wayBack b = omega (arith, told-before, told-reach) in
       ap (λ x. take x (drop bf b)) f ∙ ap (λ x. take (wayBack b) (drop x b)) told-before
 
-  pub told-key : take (length b - 8 - bf) (drop bf b) ≡ partOf b
+  pub told-key : take (length b - trailerSize - bf) (drop bf b) ≡ partOf b
   told-key =
-      let f : length b - 8 - bf ≡ n = omega (arith, told-before, told-reach, told-n) in
+      let f : length b - trailerSize - bf ≡ n = omega (arith, told-before, told-reach, told-n) in
       ap (λ x. take x (drop bf b)) f ∙ ap (partAs b) e
 
-  pub told-below : s ≤ length (take (length b - 8 - bf) (drop bf b))
+  pub told-below : s ≤ length (take (length b - trailerSize - bf) (drop bf b))
   told-below =
       let h = passes-below (marksIn b .kind) (marksIn b .letters) (marksIn b .start) (marksIn b .strand) (made-test b (taken-sheet b told-done .1)) in
       omega (arith, told-start, ap length told-part)

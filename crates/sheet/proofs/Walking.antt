@@ -10,6 +10,7 @@ use lib.Seq.{take-take, take-length, length-take-le}
 use Rattle.sheet.specs.declared.answer.Found.{Found}
 use Rattle.sheet.specs.declared.answer.Found.the-variants.{Sheet, Refused}
 use Rattle.sheet.specs.declared.answer.Walked.{Walked}
+use Rattle.sheet.specs.Sheet.{trailerSize}
 use Rattle.sheet.specs.Trailer.{foundOf}
 use Rattle.sheet.specs.Book.{stepAs, walkBack, walkOf, walkedAs, walkedOf}
 use Rattle.sheet.proofs.Told.{told-long, told-within}
@@ -46,7 +47,7 @@ module _ (book : List ℕ) (rest sheets : ℕ) (w : Walking book rest sheets) (h
       w .same ∙ ap (λ x. walkBack x (take rest book) (w .behind)) f ∙ walk-step (w .fuel - 1) (take rest book) (w .behind) r (omega (arith, size-rest)) (sym e)
 
   module _ (n s σ k bf : ℕ) (e : Sheet n s σ k bf ≡ foundOf (take rest book)) where
-    pub walking-less : bf + 8 ≤ rest
+    pub walking-less : bf + trailerSize ≤ rest
     walking-less = omega (arith, told-within (take rest book) n s σ k bf e, told-long (take rest book) n s σ k bf e, size-rest)
 
     pub walking-on : Walking book bf (sheets + 1)

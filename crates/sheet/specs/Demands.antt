@@ -11,8 +11,8 @@ use Rattle.ring.specs.declared.answer.Checked.{Checked}
 use Rattle.ring.specs.declared.answer.Marked.{Marked}
 use Rattle.ring.specs.Judging.{most, Permitted}
 use Rattle.sheet.specs.declared.answer.Entry.{Entry}
-use Rattle.sheet.specs.Sheet.{marksOf, Written}
-use Rattle.sheet.specs.Trailer.{trailer, wayBack, marksIn}
+use Rattle.sheet.specs.Sheet.{tagFirst, tagLast, trailerSize, marksOf, Written}
+use Rattle.sheet.specs.Trailer.{trailer, strandAt, kindAt, tagAt, wayBack, marksIn}
 use Rattle.sheet.specs.Book.{joined}
 use Rattle.sheet.specs.Calls.{WriteCall, OriginalCall}
 
@@ -20,15 +20,15 @@ use Rattle.sheet.specs.Calls.{WriteCall, OriginalCall}
 
 -- 6 in a sheet: "kind is not 0 or 1; in a sheet also a wrong tag, a strand above 1, or kind 0 with strand 1" (01), of a trailer
 pub data Wrong (t : List ℕ) : Type 0 where
-  tag-first : (getD t 6 0 ≡ 0x52 → ⊥) → Wrong t
-  tag-last : (getD t 7 0 ≡ 0x47 → ⊥) → Wrong t
-  no-kind : known (getD t 5 0) ≡ false → Wrong t
-  strand-above : 1 < getD t 4 0 → Wrong t
-  feature-strand : getD t 5 0 ≡ 0 → getD t 4 0 ≡ 1 → Wrong t
+  tag-first : (getD t tagAt 0 ≡ tagFirst → ⊥) → Wrong t
+  tag-last : (getD t (tagAt + 1) 0 ≡ tagLast → ⊥) → Wrong t
+  no-kind : known (getD t kindAt 0) ≡ false → Wrong t
+  strand-above : 1 < getD t strandAt 0 → Wrong t
+  feature-strand : getD t kindAt 0 ≡ 0 → getD t strandAt 0 ≡ 1 → Wrong t
 
 -- a trailer is there, and 6 is not given
 pub record Trailed (b : List ℕ) : Type 0 where
-  pub long : 8 ≤ length b
+  pub long : trailerSize ≤ length b
   pub right : Wrong (trailer b) → ⊥
 
 -- it points to letters that are there, and neither 1 nor 2 is given
@@ -36,7 +36,7 @@ pub record Reaches (b : List ℕ) : Type 0 where
   pub trailed : Trailed b
   pub some : 0 < wayBack b
   pub within : wayBack b ≤ most
-  pub reach : wayBack b ≤ length b - 8
+  pub reach : wayBack b ≤ length b - trailerSize
 
 -- each of them is a letter of the sheet's kind
 pub record Lettered (b : List ℕ) : Type 0 where
@@ -52,11 +52,11 @@ pub record Made (b : List ℕ) : Type 0 where
 
 -- each number when its condition holds and none before it in the order, with its place
 pub data SheetGiven (b : List ℕ) : ℕ → ℕ → Type 0 where
-  few : length b < 8 → SheetGiven b 5 0
-  wrong : 8 ≤ length b → Wrong (trailer b) → SheetGiven b 6 0
+  few : length b < trailerSize → SheetGiven b 5 0
+  wrong : trailerSize ≤ length b → Wrong (trailer b) → SheetGiven b 6 0
   none : Trailed b → wayBack b ≡ 0 → SheetGiven b 1 0
   many : Trailed b → most < wayBack b → SheetGiven b 2 0
-  far : Trailed b → 0 < wayBack b → wayBack b ≤ most → length b - 8 < wayBack b → SheetGiven b 5 0
+  far : Trailed b → 0 < wayBack b → wayBack b ≤ most → length b - trailerSize < wayBack b → SheetGiven b 5 0
   -- the place is the first such position, counted from the sheet's first letter
   letter : Reaches b → (i : ℕ) → i < wayBack b → isLetter (marksIn b .kind) (getD (marksIn b .letters) i 0) ≡ false
       → ((j : ℕ) → j < i → isLetter (marksIn b .kind) (getD (marksIn b .letters) j 0) ≡ true) → SheetGiven b 3 i
@@ -110,7 +110,7 @@ pub record Accepted (b : List ℕ) (r : Entry) : Type 0 where
   pub deposit : List ℕ
   pub permitted : Permitted (r .kind) deposit
   pub size : length deposit ≡ r .marked .n
-  pub bytes : (room : List ℕ) (m : Marked) (left : List ℕ) → WriteCall deposit (r .kind) room m left → length deposit + 8 ≤ length room
-      → (m ≡ r .marked) × (take (length deposit + 8) left ≡ drop (r .before) b)
+  pub bytes : (room : List ℕ) (m : Marked) (left : List ℕ) → WriteCall deposit (r .kind) room m left → length deposit + trailerSize ≤ length room
+      → (m ≡ r .marked) × (take (length deposit + trailerSize) left ≡ drop (r .before) b)
   pub original : (room : List ℕ) (o : Checked) (left : List ℕ) → OriginalCall b room o left → length deposit ≤ length room
       → (o ≡ record { number = 0; place = 0 }) × (take (length deposit) left ≡ deposit)

@@ -3,9 +3,9 @@
 use mathlib.Core.Path.{_≡_}
 use mathlib.Core.Bool.{Bool}
 use mathlib.Core.List.{List, [], _∷_, _++_}
-use Prim.Native.Nat.{ℕ, _+_, _/_, _%_}
+use Prim.Native.Nat.{ℕ, zero, suc, _+_, _*_, _/_, _%_}
 use lib.Dec.{ltb}
-use lib.ListN.{length}
+use lib.ListN.{length, drop, getD}
 use Rattle.words.specs.Strand.{strand, keyStart, key}
 use Rattle.ring.specs.declared.judge.Verdict.{Verdict}
 use Rattle.ring.specs.declared.answer.Marked.{Marked}
@@ -19,16 +19,41 @@ pub record Marks : Type 0 where
   pub strand : ℕ
   pub kind : ℕ
 
--- a number of two bytes, "low byte first" (01)
-abbrev pub low : ℕ → ℕ
-low x = x % 256
+-- the values of a byte
+abbrev pub base : ℕ
+base = 256
 
-abbrev pub high : ℕ → ℕ
-high x = x / 256
+-- k bytes of a number, "low byte first" (01): a number below base ^ k whole
+abbrev pub bytesIn : ℕ → ℕ → List ℕ
+bytesIn zero x = []
+bytesIn (suc k) x = x % base ∷ bytesIn k (x / base)
 
--- the trailer of 8 bytes: n, key's start, strand, kind, 52 47 hexadecimal (01, the table of the sheet)
+-- the number that the first k bytes of a list are, "low byte first" (01)
+abbrev pub numberIn : ℕ → List ℕ → ℕ
+numberIn zero t = 0
+numberIn (suc k) t = getD t 0 0 + base * numberIn k (drop 1 t)
+
+-- the bytes of n and of the key's start in a trailer: "0, 1" and "2, 3" (01)
+abbrev pub width : ℕ
+width = 2
+
+-- "52 47 hexadecimal" (01)
+abbrev pub tagFirst : ℕ
+tagFirst = 0x52
+
+abbrev pub tagLast : ℕ
+tagLast = 0x47
+
+abbrev pub tag : List ℕ
+tag = tagFirst ∷ tagLast ∷ []
+
+-- "a trailer of 8 bytes" (01): two numbers, strand, kind, tag
+abbrev pub trailerSize : ℕ
+trailerSize = width + width + 1 + 1 + length tag
+
+-- n, key's start, strand, kind, 52 47 hexadecimal (01, the table of the sheet)
 abbrev pub trailerOf : ℕ → ℕ → ℕ → ℕ → List ℕ
-trailerOf n start strand kind = low n ∷ high n ∷ low start ∷ high start ∷ strand ∷ kind ∷ 0x52 ∷ 0x47 ∷ []
+trailerOf n start strand kind = bytesIn width n ++ bytesIn width start ++ strand ∷ kind ∷ tag
 
 -- "The key's n letters, then a trailer of 8 bytes that points back" (01)
 abbrev pub bytesOf : Marks → List ℕ
@@ -58,7 +83,7 @@ isMade m = isKey (m .kind) (m .letters) (m .start) (m .strand)
 -- ---- the writer's answer: "Order for rings: 6, 1, 2, 3, 4", and 4 for "fewer than n+8" (01)
 
 abbrev pub writeVerdict : ℕ → List ℕ → ℕ → Verdict
-writeVerdict kind w size = verdict kind w (ltb size (length w + 8))
+writeVerdict kind w size = verdict kind w (ltb size (length w + trailerSize))
 
 abbrev pub writtenOf : ℕ → List ℕ → ℕ → Marked
 writtenOf kind w size = markedAs (writeVerdict kind w size) kind w

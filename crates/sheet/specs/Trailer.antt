@@ -3,7 +3,7 @@
 use mathlib.Core.Path.{_≡_}
 use mathlib.Core.Bool.{Bool, false, not, _||_, _&&_}
 use mathlib.Core.List.{List, [], _∷_, _++_}
-use Prim.Native.Nat.{ℕ, _+_, _-_, _*_, _≤_, _<_}
+use Prim.Native.Nat.{ℕ, _+_, _-_, _≤_, _<_}
 use lib.Dec.{ltb, eqb}
 use lib.ListN.{length, take, drop, getD}
 use Rattle.words.specs.Kind.{known, stranded}
@@ -11,43 +11,52 @@ use Rattle.ring.specs.Rule.{Rule, rule, judged}
 use Rattle.ring.specs.Judging.{most, firstBad}
 use Rattle.sheet.specs.declared.answer.Found.{Found}
 use Rattle.sheet.specs.declared.answer.Found.the-variants.{Sheet, Refused}
-use Rattle.sheet.specs.Sheet.{Marks, isMade}
+use Rattle.sheet.specs.Sheet.{Marks, base, numberIn, width, tagFirst, tagLast, trailerSize, isMade}
 
 -- what lent bytes hold
 abbrev pub Bytes : List ℕ → Type 0
-Bytes b = (i : ℕ) → getD b i 0 < 256
+Bytes b = (i : ℕ) → getD b i 0 < base
 
--- the last 8 bytes
+-- "a trailer of 8 bytes" (01), the last
 abbrev pub trailer : List ℕ → List ℕ
-trailer b = drop (length b - 8) b
+trailer b = drop (length b - trailerSize) b
 
--- a number of two bytes, low byte first
-abbrev pub two : List ℕ → ℕ → ℕ
-two t i = getD t i 0 + 256 * getD t (i + 1) 0
+-- where the key's start, strand, kind and tag stand in a trailer: each behind what stands before it (01, the table of the sheet)
+abbrev pub startAt : ℕ
+startAt = width
+
+abbrev pub strandAt : ℕ
+strandAt = startAt + width
+
+abbrev pub kindAt : ℕ
+kindAt = strandAt + 1
+
+abbrev pub tagAt : ℕ
+tagAt = kindAt + 1
 
 -- "n, the way back from the trailer to the first letter" (01)
 abbrev pub wayBack : List ℕ → ℕ
-wayBack b = two (trailer b) 0
+wayBack b = numberIn width (trailer b)
 
 -- how many bytes stand before the sheet's first letter
 abbrev pub before : List ℕ → ℕ
-before b = length b - 8 - wayBack b
+before b = length b - trailerSize - wayBack b
 
 -- the letters and marks that the trailer points to
 abbrev pub marksIn : List ℕ → Marks
 marksIn b = record {
   letters = take (wayBack b) (drop (before b) b);
-  start = two (trailer b) 2;
-  strand = getD (trailer b) 4 0;
-  kind = getD (trailer b) 5 0;
+  start = numberIn width (drop startAt (trailer b));
+  strand = getD (trailer b) strandAt 0;
+  kind = getD (trailer b) kindAt 0;
 }
 
 -- "kind is not 0 or 1; in a sheet also a wrong tag, a strand above 1, or kind 0 with strand 1" (01): strand 1 of a kind without strands
 abbrev pub wrongAs : ℕ → ℕ → ℕ → ℕ → Bool
-wrongAs a b kind strand = not (eqb a 0x52) || not (eqb b 0x47) || not (known kind) || ltb 1 strand || eqb strand 1 && not (stranded kind)
+wrongAs a b kind strand = not (eqb a tagFirst) || not (eqb b tagLast) || not (known kind) || ltb 1 strand || eqb strand 1 && not (stranded kind)
 
 unfoldable pub wrongMarks : List ℕ → Bool
-wrongMarks t = wrongAs (getD t 6 0) (getD t 7 0) (getD t 5 0) (getD t 4 0)
+wrongMarks t = wrongAs (getD t tagAt 0) (getD t (tagAt + 1) 0) (getD t kindAt 0) (getD t strandAt 0)
 
 -- the first position, from the sheet's first letter, that holds no letter of the sheet's kind
 abbrev pub badIn : List ℕ → ℕ
@@ -56,23 +65,23 @@ badIn b = firstBad (marksIn b .kind) (marksIn b .letters)
 -- "Order for a sheet: 5 for fewer than 8 bytes, 6, 1, 2, 5 for the way back, 3" (01)
 abbrev pub formRules : List ℕ → List (Rule Found)
 formRules b =
-    rule (ltb (length b) 8) (Refused 5 0)
+    rule (ltb (length b) trailerSize) (Refused 5 0)
     ∷ rule (wrongMarks (trailer b)) (Refused 6 0)
     ∷ rule (eqb (wayBack b) 0) (Refused 1 0)
     ∷ rule (ltb most (wayBack b)) (Refused 2 0)
-    ∷ rule (ltb (length b - 8) (wayBack b)) (Refused 5 0)
+    ∷ rule (ltb (length b - trailerSize) (wayBack b)) (Refused 5 0)
     ∷ rule (ltb (badIn b) (length (marksIn b .letters))) (Refused 3 (badIn b))
     ∷ []
 
 -- bytes whose trailer, at `at`, passed the rules before 3, and points n letters back
 pub record Pointed (b : List ℕ) (at n : ℕ) : Type 0 where
-  pub long : 8 ≤ length b
+  pub long : trailerSize ≤ length b
   pub right : wrongMarks (trailer b) ≡ false
   pub back : n ≡ wayBack b
   pub some : 0 < n
   pub within : n ≤ most
   pub reach : n ≤ at
-  pub here : at ≡ length b - 8
+  pub here : at ≡ length b - trailerSize
 
 -- 7: "the sheet's letters and marks are not what the writer makes for any deposit" (01)
 abbrev pub notMade : List ℕ → Rule Found

@@ -56,7 +56,7 @@ pub fn letters(bytes: &[u8]) -> &[u8]
     let Found::Sheet { before, .. } = trailer::trailer(bytes) else {
         return &bytes[..0];
     };
-    let at = bytes.len() - 8;
+    let at = bytes.len() - trailer::SIZE;
     &bytes[before..at]
 }
 
@@ -85,7 +85,7 @@ pub fn original(bytes: &[u8], room: &mut [u8]) -> Checked
             before,
             ..
         } => {
-            let at = bytes.len() - 8;
+            let at = bytes.len() - trailer::SIZE;
             restore(&bytes[before..at], start, strand, room)
         }
     }

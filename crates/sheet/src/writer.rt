@@ -5,7 +5,7 @@ ghost use Rattle.sheet.specs.Sheet.{writtenOf, writtenRoom};
 use super::trailer;
 use ring::Marked;
 
-// Writes the key's letters and then the trailer: 6, 1, 2, 3, and 4 for fewer than n + 8 bytes.
+// Writes the key's letters and then the trailer: 6, 1, 2, 3, and 4 for fewer than n bytes and the trailer's.
 pub fn write(ring: &[u8], kind: u8, room: &mut [u8]) -> Marked
     ensures { λ r. ⌜ r ≡ writtenOf kind (now (ring .entry)) (length (now (room .entry))) ⌝ }
     ensures { λ _. ⌜ now (room .exit) ≡ writtenRoom kind (now (ring .entry)) (now (room .entry)) ⌝ }
@@ -17,7 +17,7 @@ pub fn write(ring: &[u8], kind: u8, room: &mut [u8]) -> Marked
     let n = m.n;
     let start = m.start;
     let strand = m.strand;
-    if room.len() < n + 8 {
+    if room.len() < n + trailer::SIZE {
         return Marked {
             number: 4,
             place: 0,
@@ -27,6 +27,6 @@ pub fn write(ring: &[u8], kind: u8, room: &mut [u8]) -> Marked
         };
     }
     ring::write_reading(ring, strand, start, room);
-    trailer::put_trailer(room, n, start, strand, kind);
+    trailer::put_trailer(&mut room[n..], n, start, strand, kind);
     m
 }

@@ -17,7 +17,11 @@ loop-holds : tie.Need-loop-holds Inv-loop μ-loop
 loop-holds c = walking-first _
 
 slice-aggregate-trailer : tie.Need-slice-aggregate-trailer Inv-loop μ-loop
-slice-aggregate-trailer c = sym (size-rest (c .before .before .before .before .args .book .now) _ _ (c .before .before .loop .inv) (c .before .loop-test .taken))
+slice-aggregate-trailer c =
+    let s : tie.Start Inv-loop μ-loop = search needs in
+    let l : tie.At-loop Inv-loop μ-loop = search needs in
+    let i : tie.In-loop Inv-loop μ-loop = search needs in
+    sym (size-rest (s .args .book .now) _ _ (l .loop .inv) (i .loop-test .taken))
 
 trailer-requires : tie.Need-trailer-requires Inv-loop μ-loop
 trailer-requires c κs = search needs
@@ -27,28 +31,47 @@ enum-known-before c = search needs
 
 add-sheets : tie.Need-add-sheets Inv-loop μ-loop
 add-sheets c =
-    let h = c .before .before .before .before .before .before .loop .inv .within in
-    let t = c .before .before .before .before .before .loop-test .taken in
+    let l : tie.At-loop Inv-loop μ-loop = search needs in
+    let i : tie.In-loop Inv-loop μ-loop = search needs in
+    let h = l .loop .inv .within in
+    let p = i .loop-test .taken in
     search needs
 
 loop-less : tie.Need-loop-less Inv-loop μ-loop
 loop-less c =
-    omega (arith, walking-less (c .before .before .before .before .before .before .before .before .args .book .now) _ _ (c .before .before .before .before .before .before .loop .inv) (c .before .before .before .before .before .loop-test .taken) _ _ _ _ _ (sym (c .before .before2 .given .1) ∙ c .before .before .before .trailer .ensures))
+    let s : tie.Start Inv-loop μ-loop = search needs in
+    let l : tie.At-loop Inv-loop μ-loop = search needs in
+    let i : tie.In-loop Inv-loop μ-loop = search needs in
+    let t : tie.After-trailer Inv-loop μ-loop = search needs in
+    omega (arith, walking-less (s .args .book .now) _ _ (l .loop .inv) (i .loop-test .taken) _ _ _ _ _ (sym (c .before .before2 .given .1) ∙ t .trailer .ensures))
 
 loop-again : tie.Need-loop-again Inv-loop μ-loop
 loop-again c =
-    walking-on (c .before .before .before .before .before .before .before .before .args .book .now) _ _ (c .before .before .before .before .before .before .loop .inv) (c .before .before .before .before .before .loop-test .taken) _ _ _ _ _ (sym (c .before .before2 .given .1) ∙ c .before .before .before .trailer .ensures)
+    let s : tie.Start Inv-loop μ-loop = search needs in
+    let l : tie.At-loop Inv-loop μ-loop = search needs in
+    let i : tie.In-loop Inv-loop μ-loop = search needs in
+    let t : tie.After-trailer Inv-loop μ-loop = search needs in
+    walking-on (s .args .book .now) _ _ (l .loop .inv) (i .loop-test .taken) _ _ _ _ _ (sym (c .before .before2 .given .1) ∙ t .trailer .ensures)
 
 enum-known-number : tie.Need-enum-known-number Inv-loop μ-loop
 enum-known-number c = search needs
 
 returns : tie.Need-returns Inv-loop μ-loop
 returns c =
-    (walking-refused (c .before .before .before .before .before .before .before .before .args .book .now) _ _ (c .before .before .before .before .before .before .loop .inv) (c .before .before .before .before .before .loop-test .taken) _ _ (sym (c .before .number .given .1) ∙ c .before .before .before .trailer .ensures), λ i. omega (arith, c .before .before .before .before .before .before .before .shared-slice-known .given i))
+    let s : tie.Start Inv-loop μ-loop = search needs in
+    let l : tie.At-loop Inv-loop μ-loop = search needs in
+    let i : tie.In-loop Inv-loop μ-loop = search needs in
+    let t : tie.After-trailer Inv-loop μ-loop = search needs in
+    let k : tie.After-shared-slice-known Inv-loop μ-loop = search needs in (
+      walking-refused (s .args .book .now) _ _ (l .loop .inv) (i .loop-test .taken) _ _ (sym (c .before .number .given .1) ∙ t .trailer .ensures),
+      λ j. omega (arith, k .shared-slice-known .given j),
+    )
 
 returns-2 : tie.Need-returns-2 Inv-loop μ-loop
 returns-2 c =
-    (walking-last (c .before .before .before .args .book .now) _ _ (c .before .loop .inv) (omega arith), λ i. omega (arith, c .before .before .shared-slice-known .given i))
+    let s : tie.Start Inv-loop μ-loop = search needs in
+    let k : tie.After-shared-slice-known Inv-loop μ-loop = search needs in
+    (walking-last (s .args .book .now) _ _ (c .before .loop .inv) (omega arith), λ j. omega (arith, k .shared-slice-known .given j))
 
 pub walk-spec : {M : Type 1} → statement M
 walk-spec =

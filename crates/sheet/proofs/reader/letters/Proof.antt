@@ -22,19 +22,30 @@ slice-aggregate-result c = search needs
 
 returns : tie.Need-returns
 returns c =
-    let e = sym (c .before .enum-told .given .1) ∙ c .before .before .before .trailer .ensures in
-    (ap (partAs (c .before .before .before .before .before .args .bytes .now)) e, (refl, omega (arith, ap (λ f. entryAs f .before) e)))
+    let s : tie.Start = search needs in
+    let t : tie.After-trailer = search needs in
+    let e = sym (c .before .enum-told .given .1) ∙ t .trailer .ensures in
+    (ap (partAs (s .args .bytes .now)) e, (refl, omega (arith, ap (λ f. entryAs f .before) e)))
 
 sub-at : tie.Need-sub-at
-sub-at c = told-long (c .before .before .before .before .before .args .bytes .now) _ _ _ _ _ (sym (c .before .before2 .given .1) ∙ c .before .before .before .trailer .ensures)
+sub-at c =
+    let s : tie.Start = search needs in
+    let t : tie.After-trailer = search needs in
+    told-long (s .args .bytes .now) _ _ _ _ _ (sym (c .before .before2 .given .1) ∙ t .trailer .ensures)
 
 sub-result : tie.Need-sub-result
-sub-result c = told-within (c .before .before .before .before .before .args .bytes .now) _ _ _ _ _ (sym (c .before .before2 .given .1) ∙ c .before .before .before .trailer .ensures)
+sub-result c =
+    let s : tie.Start = search needs in
+    let t : tie.After-trailer = search needs in
+    told-within (s .args .bytes .now) _ _ _ _ _ (sym (c .before .before2 .given .1) ∙ t .trailer .ensures)
 
 part-result-start : tie.Need-part-result-start
 part-result-start c =
-    let h = told-within (c .before .before .before .before .before .args .bytes .now) _ _ _ _ _ (sym (c .before .before2 .given .1) ∙ c .before .before .before .trailer .ensures) in
-    let l = told-long (c .before .before .before .before .before .args .bytes .now) _ _ _ _ _ (sym (c .before .before2 .given .1) ∙ c .before .before .before .trailer .ensures) in
+    let s : tie.Start = search needs in
+    let t : tie.After-trailer = search needs in
+    let e = sym (c .before .before2 .given .1) ∙ t .trailer .ensures in
+    let h = told-within (s .args .bytes .now) _ _ _ _ _ e in
+    let l = told-long (s .args .bytes .now) _ _ _ _ _ e in
     search needs
 
 part-result-end : tie.Need-part-result-end
@@ -42,8 +53,11 @@ part-result-end c = search needs
 
 returns-2 : tie.Need-returns-2
 returns-2 c =
-    let e = sym (c .before .before .before2 .given .1) ∙ c .before .before .before .before .trailer .ensures in
-    (told-key (c .before .before .before .before .before .before .args .bytes .now) _ _ _ _ _ (sym (c .before .before .before2 .given .1) ∙ c .before .before .before .before .trailer .ensures), (refl, omega (arith, ap (λ f. entryAs f .before) e)))
+    let s : tie.Start = search needs in
+    let t : tie.After-trailer = search needs in
+    let k : tie.After-before2 = search needs in
+    let e = sym (k .before2 .given .1) ∙ t .trailer .ensures in
+    (told-key (s .args .bytes .now) _ _ _ _ _ e, (refl, omega (arith, ap (λ f. entryAs f .before) e)))
 
 pub letters-spec : {M : Type 1} → statement M
 letters-spec =

@@ -18,11 +18,15 @@ enum-known-number c = search needs
 
 returns : tie.Need-returns
 returns c =
-    (ap entryAs (sym (c .before .n .given .1) ∙ c .before .before .before .trailer .ensures), λ i. omega (arith, c .before .before .before .before .shared-slice-known .given i))
+    let s : tie.After-shared-slice-known = search needs in
+    let t : tie.After-trailer = search needs in
+    (ap entryAs (sym (c .before .n .given .1) ∙ t .trailer .ensures), λ i. omega (arith, s .shared-slice-known .given i))
 
 returns-2 : tie.Need-returns-2
 returns-2 c =
-    (ap entryAs (sym (c .before .number .given .1) ∙ c .before .before .before .trailer .ensures), λ i. omega (arith, c .before .before .before .before .shared-slice-known .given i))
+    let s : tie.After-shared-slice-known = search needs in
+    let t : tie.After-trailer = search needs in
+    (ap entryAs (sym (c .before .number .given .1) ∙ t .trailer .ensures), λ i. omega (arith, s .shared-slice-known .given i))
 
 pub read-spec : {M : Type 1} → statement M
 read-spec = tie.close (tie.spec trailer-requires enum-known-n enum-known-number returns returns-2)

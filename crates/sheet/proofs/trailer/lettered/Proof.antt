@@ -30,20 +30,15 @@ check-requires c κs = search needs
 
 returns : tie.Need-returns
 returns c =
-    let s = c .before .before .before .before .before .before in
-    says-letter (s .args .bytes .now) (s .args .at) (s .args .n) (s .pre) (c .before .before .check .result) (c .before .before .check .ensures) (c .if1 .taken)
+    let s : tie.Start = search needs in
+    let k : tie.After-check = search needs in
+    says-letter (s .args .bytes .now) (s .args .at) (s .args .n) (s .pre) (k .check .result) (k .check .ensures) (c .if1 .taken)
 
-sub-pair : tie.Need-sub-pair
-sub-pair c = search needs
+add-number : tie.Need-add-number
+add-number c = search needs
 
-part-pair-start : tie.Need-part-pair-start
-part-pair-start c = search needs
-
-part-pair-end : tie.Need-part-pair-end
-part-pair-end c = search needs
-
-pair-requires : tie.Need-pair-requires
-pair-requires c κs = search needs
+number-requires : tie.Need-number-requires
+number-requires c κs = search needs
 
 add-strand : tie.Need-add-strand
 add-strand c = search needs
@@ -56,15 +51,21 @@ is-key-requires c κs = search needs
 
 returns-2 : tie.Need-returns-2
 returns-2 c =
-    let s = c .before .before .before .before .before .before .before .before .before .before .before in
-    says-no-key (s .args .bytes .now) (s .args .at) (s .args .n) (s .pre) (c .before .before .before .before .before .before .before .check .result) (c .before .before .before .before .before .before .before .check .ensures) (c .before .before .before .before .before .if1 .left)
-    (c .before .before .before .pair .result) (c .before .before .before .pair .ensures) (sym (c .before .is-key .ensures) ∙ not-true _ (c .if2 .taken))
+    let s : tie.Start = search needs in
+    let k : tie.After-check = search needs in
+    let l : tie.Else1 = search needs in
+    let x : tie.After-number = search needs in
+    says-no-key (s .args .bytes .now) (s .args .at) (s .args .n) (s .pre) (k .check .result) (k .check .ensures) (l .if1 .left)
+    (x .number .result) (x .number .ensures) (sym (c .before .is-key .ensures) ∙ not-true _ (c .if2 .taken))
 
 returns-3 : tie.Need-returns-3
 returns-3 c =
-    let s = c .before .before .before .before .before .before .before .before .before .before .before in
-    says-sheet (s .args .bytes .now) (s .args .at) (s .args .n) (s .pre) (c .before .before .before .before .before .before .before .check .result) (c .before .before .before .before .before .before .before .check .ensures) (c .before .before .before .before .before .if1 .left)
-    (c .before .before .before .pair .result) (c .before .before .before .pair .ensures) (sym (c .before .is-key .ensures) ∙ not-false _ (c .if2 .left))
+    let s : tie.Start = search needs in
+    let k : tie.After-check = search needs in
+    let l : tie.Else1 = search needs in
+    let x : tie.After-number = search needs in
+    says-sheet (s .args .bytes .now) (s .args .at) (s .args .n) (s .pre) (k .check .result) (k .check .ensures) (l .if1 .left)
+    (x .number .result) (x .number .ensures) (sym (c .before .is-key .ensures) ∙ not-false _ (c .if2 .left))
 
 pub lettered-spec : {M : Type 1} → statement M
 lettered-spec =
@@ -78,10 +79,8 @@ lettered-spec =
     part-letters-end
     check-requires
     returns
-    sub-pair
-    part-pair-start
-    part-pair-end
-    pair-requires
+    add-number
+    number-requires
     add-strand
     shared-slice-read-strand
     is-key-requires

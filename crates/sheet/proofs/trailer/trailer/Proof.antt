@@ -1,14 +1,14 @@
 -- `sheet::trailer::trailer` meets its contract. Each answer is the first rule that holds, by `Replies`.
 -- Assumes nothing.
-use mathlib.Core.Path.{sym, ap, _∙_}
-use Rattle.sheet.specs.Trailer.{two, wrongMarks}
-use Rattle.sheet.proofs.Replies.{rest-is, says-few, says-wrong, says-none, says-many, says-reach, pointed}
+use Rattle.sheet.proofs.Replies.{wrong-is, says-few, says-wrong, says-none, says-many, says-reach, pointed}
 use borrow.Author.Needs.{needs}
 use Rattle.sheet.proofs.trailer.trailer.Statement.{statement}
 use Rattle.sheet.proofs.trailer.trailer.Tie as tie
 
 returns : tie.Need-returns
-returns c = says-few (c .before .before .args .bytes .now) (c .if1 .taken)
+returns c =
+    let s : tie.Start = search needs in
+    says-few (s .args .bytes .now) (c .if1 .taken)
 
 sub-t : tie.Need-sub-t
 sub-t c = search needs
@@ -24,35 +24,54 @@ wrong-requires c κs = search needs
 
 returns-2 : tie.Need-returns-2
 returns-2 c =
-    let b = c .before .before .before .before .before .args .bytes .now in
-    says-wrong b (c .before .before .before .if1 .left) (ap wrongMarks (sym (rest-is b)) ∙ sym (c .before .wrong .ensures) ∙ c .if2 .taken)
+    let s : tie.Start = search needs in
+    let f : tie.Else1 = search needs in
+    let b = s .args .bytes .now in
+    says-wrong b (f .if1 .left) (wrong-is b _ _ (c .before .wrong .ensures) (c .if2 .taken))
 
-pair-requires : tie.Need-pair-requires
-pair-requires c κs = search needs
+number-requires : tie.Need-number-requires
+number-requires c κs = search needs
 
 returns-3 : tie.Need-returns-3
 returns-3 c =
-    let b = c .before .before .before .before .before .before .before .args .bytes .now in
-    says-none b (c .before .before .before .before .before .if1 .left) (ap wrongMarks (sym (rest-is b)) ∙ sym (c .before .before .before .wrong .ensures) ∙ c .before .before .if2 .left) (c .before .pair .result)
-    (c .before .pair .ensures ∙ ap (λ t. two t 0) (rest-is b)) (c .if3 .taken)
+    let s : tie.Start = search needs in
+    let f : tie.Else1 = search needs in
+    let x : tie.After-wrong = search needs in
+    let y : tie.Else2 = search needs in
+    let b = s .args .bytes .now in
+    says-none b (f .if1 .left) (wrong-is b _ _ (x .wrong .ensures) (y .if2 .left)) (c .before .number .result) (c .before .number .ensures) (c .if3 .taken)
 
 returns-4 : tie.Need-returns-4
 returns-4 c =
-    let b = c .before .before .before .before .before .before .before .before .args .bytes .now in
-    says-many b (c .before .before .before .before .before .before .if1 .left) (ap wrongMarks (sym (rest-is b)) ∙ sym (c .before .before .before .before .wrong .ensures) ∙ c .before .before .before .if2 .left) (c .before .before .pair .result)
-    (c .before .before .pair .ensures ∙ ap (λ t. two t 0) (rest-is b)) (c .before .if3 .left) (c .if4 .taken)
+    let s : tie.Start = search needs in
+    let f : tie.Else1 = search needs in
+    let x : tie.After-wrong = search needs in
+    let y : tie.Else2 = search needs in
+    let b = s .args .bytes .now in
+    let z : tie.After-number = search needs in
+    says-many b (f .if1 .left) (wrong-is b _ _ (x .wrong .ensures) (y .if2 .left)) (z .number .result) (z .number .ensures) (c .before .if3 .left) (c .if4 .taken)
 
 returns-5 : tie.Need-returns-5
 returns-5 c =
-    let b = c .before .before .before .before .before .before .before .before .before .args .bytes .now in
-    says-reach b (c .before .before .before .before .before .before .before .if1 .left) (ap wrongMarks (sym (rest-is b)) ∙ sym (c .before .before .before .before .before .wrong .ensures) ∙ c .before .before .before .before .if2 .left) (c .before .before .before .pair .result)
-    (c .before .before .before .pair .ensures ∙ ap (λ t. two t 0) (rest-is b)) (c .before .before .if3 .left) (c .before .if4 .left) (c .if5 .taken)
+    let s : tie.Start = search needs in
+    let f : tie.Else1 = search needs in
+    let x : tie.After-wrong = search needs in
+    let y : tie.Else2 = search needs in
+    let b = s .args .bytes .now in
+    let z : tie.After-number = search needs in
+    says-reach b (f .if1 .left) (wrong-is b _ _ (x .wrong .ensures) (y .if2 .left)) (z .number .result) (z .number .ensures)
+    (c .before .before .if3 .left) (c .before .if4 .left) (c .if5 .taken)
 
 lettered-requires : tie.Need-lettered-requires
 lettered-requires c κs =
-    let b = c .before .before .before .before .before .before .before .before .before .args .bytes .now in
-    pointed b (c .before .before .before .before .before .before .before .if1 .left) (ap wrongMarks (sym (rest-is b)) ∙ sym (c .before .before .before .before .before .wrong .ensures) ∙ c .before .before .before .before .if2 .left) (c .before .before .before .pair .result)
-    (c .before .before .before .pair .ensures ∙ ap (λ t. two t 0) (rest-is b)) (c .before .before .if3 .left) (c .before .if4 .left) (c .if5 .left)
+    let s : tie.Start = search needs in
+    let f : tie.Else1 = search needs in
+    let x : tie.After-wrong = search needs in
+    let y : tie.Else2 = search needs in
+    let b = s .args .bytes .now in
+    let z : tie.After-number = search needs in
+    pointed b (f .if1 .left) (wrong-is b _ _ (x .wrong .ensures) (y .if2 .left)) (z .number .result) (z .number .ensures)
+    (c .before .before .if3 .left) (c .before .if4 .left) (c .if5 .left)
 
 returns-6 : tie.Need-returns-6
 returns-6 c = search needs
@@ -67,7 +86,7 @@ trailer-spec =
     part-t-end
     wrong-requires
     returns-2
-    pair-requires
+    number-requires
     returns-3
     returns-4
     returns-5

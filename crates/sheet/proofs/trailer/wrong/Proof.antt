@@ -11,13 +11,20 @@ shared-slice-read-if1 : tie.Need-shared-slice-read-if1
 shared-slice-read-if1 c = search needs
 
 returns : tie.Need-returns
-returns c = sym (wrong-test (c .before .before .before .args .t .now) (tag-first (c .if1 .taken)))
+returns c =
+    let s : tie.Start = search needs in
+    sym (wrong-test (s .args .t .now) (tag-first (c .if1 .taken)))
+
+add-if2 : tie.Need-add-if2
+add-if2 c = search needs
 
 shared-slice-read-if2 : tie.Need-shared-slice-read-if2
 shared-slice-read-if2 c = search needs
 
 returns-2 : tie.Need-returns-2
-returns-2 c = sym (wrong-test (c .before .before .before .before .before .args .t .now) (tag-last (c .if2 .taken)))
+returns-2 c =
+    let s : tie.Start = search needs in
+    sym (wrong-test (s .args .t .now) (tag-last (c .if2 .taken)))
 
 shared-slice-read-strands-of : tie.Need-shared-slice-read-strands-of
 shared-slice-read-strands-of c = search needs
@@ -29,7 +36,11 @@ shared-slice-read-result : tie.Need-shared-slice-read-result
 shared-slice-read-result c = search needs
 
 returns-3 : tie.Need-returns-3
-returns-3 c = wrong-strand (c .before .before .before .before .before .before .before .before .args .t .now) (c .before .before .before .before .before .if1 .left) (c .before .before .before .if2 .left) _ (c .before .strands-of .ensures)
+returns-3 c =
+    let s : tie.Start = search needs in
+    let a : tie.Else1 = search needs in
+    let b : tie.Else2 = search needs in
+    wrong-strand (s .args .t .now) (a .if1 .left) (b .if2 .left) _ (c .before .strands-of .ensures)
 
 pub wrong-spec : {M : Type 1} → statement M
 wrong-spec =
@@ -37,6 +48,7 @@ wrong-spec =
     (tie.spec
     shared-slice-read-if1
     returns
+    add-if2
     shared-slice-read-if2
     returns-2
     shared-slice-read-strands-of

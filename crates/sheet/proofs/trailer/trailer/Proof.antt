@@ -1,5 +1,8 @@
 -- `sheet::trailer::trailer` meets its contract. Each answer is the first rule that holds, by `Replies`.
 -- Assumes nothing.
+use mathlib.Core.Path.{_≡_}
+use mathlib.Core.Bool.{false}
+use Rattle.sheet.specs.Trailer.{trailer, wrongMarks}
 use Rattle.sheet.proofs.Replies.{wrong-is, says-few, says-wrong, says-none, says-many, says-reach, pointed}
 use borrow.Author.Needs.{needs}
 use Rattle.sheet.proofs.trailer.trailer.Statement.{statement}
@@ -29,6 +32,12 @@ returns-2 c =
     let b = s .args .bytes .now in
     says-wrong b (f .if1 .left) (wrong-is b _ _ (c .before .wrong .ensures) (c .if2 .taken))
 
+-- past the second test, number 6 is not given
+right : (c : tie.Else2) → let s : tie.Start = search needs in wrongMarks (trailer (s .args .bytes .now)) ≡ false
+right c =
+    let s : tie.Start = search needs in
+    wrong-is (s .args .bytes .now) _ _ (c .before .wrong .ensures) (c .if2 .left)
+
 number-requires : tie.Need-number-requires
 number-requires c κs = search needs
 
@@ -36,42 +45,32 @@ returns-3 : tie.Need-returns-3
 returns-3 c =
     let s : tie.Start = search needs in
     let f : tie.Else1 = search needs in
-    let x : tie.After-wrong = search needs in
-    let y : tie.Else2 = search needs in
-    let b = s .args .bytes .now in
-    says-none b (f .if1 .left) (wrong-is b _ _ (x .wrong .ensures) (y .if2 .left)) (c .before .number .result) (c .before .number .ensures) (c .if3 .taken)
+    let r : tie.Else2 = search needs in
+    says-none (s .args .bytes .now) (f .if1 .left) (right r) (c .before .number .result) (c .before .number .ensures) (c .if3 .taken)
 
 returns-4 : tie.Need-returns-4
 returns-4 c =
     let s : tie.Start = search needs in
     let f : tie.Else1 = search needs in
-    let x : tie.After-wrong = search needs in
-    let y : tie.Else2 = search needs in
-    let b = s .args .bytes .now in
+    let r : tie.Else2 = search needs in
     let z : tie.After-number = search needs in
-    says-many b (f .if1 .left) (wrong-is b _ _ (x .wrong .ensures) (y .if2 .left)) (z .number .result) (z .number .ensures) (c .before .if3 .left) (c .if4 .taken)
+    says-many (s .args .bytes .now) (f .if1 .left) (right r) (z .number .result) (z .number .ensures) (c .before .if3 .left) (c .if4 .taken)
 
 returns-5 : tie.Need-returns-5
 returns-5 c =
     let s : tie.Start = search needs in
     let f : tie.Else1 = search needs in
-    let x : tie.After-wrong = search needs in
-    let y : tie.Else2 = search needs in
-    let b = s .args .bytes .now in
+    let r : tie.Else2 = search needs in
     let z : tie.After-number = search needs in
-    says-reach b (f .if1 .left) (wrong-is b _ _ (x .wrong .ensures) (y .if2 .left)) (z .number .result) (z .number .ensures)
-    (c .before .before .if3 .left) (c .before .if4 .left) (c .if5 .taken)
+    says-reach (s .args .bytes .now) (f .if1 .left) (right r) (z .number .result) (z .number .ensures) (c .before .before .if3 .left) (c .before .if4 .left) (c .if5 .taken)
 
 lettered-requires : tie.Need-lettered-requires
 lettered-requires c κs =
     let s : tie.Start = search needs in
     let f : tie.Else1 = search needs in
-    let x : tie.After-wrong = search needs in
-    let y : tie.Else2 = search needs in
-    let b = s .args .bytes .now in
+    let r : tie.Else2 = search needs in
     let z : tie.After-number = search needs in
-    pointed b (f .if1 .left) (wrong-is b _ _ (x .wrong .ensures) (y .if2 .left)) (z .number .result) (z .number .ensures)
-    (c .before .before .if3 .left) (c .before .if4 .left) (c .if5 .left)
+    pointed (s .args .bytes .now) (f .if1 .left) (right r) (z .number .result) (z .number .ensures) (c .before .before .if3 .left) (c .before .if4 .left) (c .if5 .left)
 
 returns-6 : tie.Need-returns-6
 returns-6 c = search needs

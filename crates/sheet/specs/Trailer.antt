@@ -18,7 +18,7 @@ use Rattle.sheet.specs.Sheet.{Marks, base, numberIn, width, tagFirst, ta
 abbrev pub Bytes : List ℕ → Type 0
 Bytes b = (i : ℕ) → getD b i 0 < base
 
--- "a trailer of 8 bytes" (01), the last
+-- the last bytes: "a trailer of 8 bytes" (01)
 abbrev pub trailer : List ℕ → List ℕ
 trailer b = drop (length b - trailerSize) b
 

@@ -11,7 +11,7 @@ use super::answer::Points;
 // The most letters that a ring has, `most` of the ring rules: crate `ring` lends out no constant of it, so it is named here too.
 const MOST: usize = 8192;
 
-// The values of a byte, and the bytes of a number in a trailer.
+// How many values a byte has, and how many bytes a number of a trailer.
 const BASE: usize = 256;
 
 const WIDTH: usize = 2;

@@ -11,13 +11,15 @@ use lib.ListN.{length, take, drop, length-append, List·getD-append, List·getD-
 use lib.Seq.{take-at, drop-at}
 use Rattle.words.specs.Strand.{strand, keyStart}
 use Rattle.words.proofs.Search.{by-test, either, lt-or-ge}
+use Rattle.ring.specs.Answers.{doneWith}
 use Rattle.sheet.specs.declared.answer.Found.{Found}
 use Rattle.sheet.specs.declared.answer.Found.the-variants.{Sheet, Refused}
 use Rattle.sheet.specs.Sheet.{trailerSize, Written, sheetOf}
 use Rattle.sheet.specs.Trailer.{Bytes, foundOf, numberOf}
 use Rattle.sheet.specs.Book.{joined, Walk, through, stopped, stepAs, walkBack, walkOf, walkedAs, walkedOf}
 use Rattle.sheet.specs.Demands.{SheetGiven, AllWritten, BookGiven, sheets, stops, Holds}
-use Rattle.sheet.proofs.Numbers.{exactly-given, refused-is, given-found, found-given}
+use Rattle.sheet.proofs.Replies.{refused-is}
+use Rattle.sheet.proofs.Numbers.{exactly-given, given-found, found-given}
 use Rattle.sheet.proofs.Rounds.{size-written, found-written}
 use Rattle.sheet.proofs.Accepted.{Ends, taken-ends}
 
@@ -39,8 +41,8 @@ walk-one : (f : ℕ) (pre s : List ℕ) (ss : List (List ℕ)) → Written s →
 walk-one f pre s ss r =
     let k : ℕ = r .kind in
     let w : List ℕ = r .deposit in
-    let d : foundOf (pre ++ s) ≡ Sheet (length w) (keyStart k w) (strand k w) k (length pre) =
-    subst (λ x. foundOf (pre ++ x) ≡ Sheet (length w) (keyStart k w) (strand k w) k (length pre)) (r .is) (found-written pre k w (r .permitted)) in
+    let d : foundOf (pre ++ s) ≡ Sheet (doneWith (length w) (keyStart k w) (strand k w)) k (length pre) =
+    subst (λ x. foundOf (pre ++ x) ≡ Sheet (doneWith (length w) (keyStart k w) (strand k w)) k (length pre)) (r .is) (found-written pre k w (r .permitted)) in
     walk-step f (pre ++ s) ss _ (rw length-append (omega (arith, written-long s r))) d
     ∙ rw (take-at pre s (length pre) refl, drop-at pre s (length pre) refl)
 

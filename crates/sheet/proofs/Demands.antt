@@ -12,7 +12,7 @@ use Rattle.ring.specs.Demands.{AsRuled, lent}
 use Rattle.sheet.specs.declared.answer.Entry.{Entry}
 use Rattle.sheet.specs.declared.answer.Walked.{Walked}
 use Rattle.sheet.specs.Sheet.{trailerSize, sheetOf}
-use Rattle.sheet.specs.Trailer.{wayBack, foundOf}
+use Rattle.sheet.specs.Trailer.{wayBack}
 use Rattle.sheet.specs.Reader.{entryOf}
 use Rattle.sheet.specs.Book.{joined, walkOf, walkedAs}
 use Rattle.sheet.specs.Calls.{WriteCall, ReadCall, LettersCall, OriginalCall, WalkCall}
@@ -36,7 +36,7 @@ read-ruled {b} c = rw (c .answer) (entry-ruled b)
 
 -- an empty part at the front, or the n letters behind the bytes before
 pub letters-handed : {b : List ℕ} {p : ℕ × ℕ} {part : List ℕ} {at : ℕ × ℕ} {r : Entry} → LettersCall b p part at → ReadCall b r → HandsBack b r p part at
-letters-handed {b} {p} {part} {at} l c = rw (c .answer, l .is) (part-handed b (foundOf b) p at (l .block) (l .place))
+letters-handed {b} {p} {part} {at} l c = rw (c .answer, l .is) (part-handed b p at (l .block) (l .place))
 
 -- 4 last, and the other numbers those of `read`
 pub original-ruled : {b room : List ℕ} {r : Checked} {left : List ℕ} → OriginalCall b room r left
@@ -76,6 +76,6 @@ round-trip {kind} {w} {pre} {b} {room} {left} {room2} {left2} {part} {m} {r} {o}
 -- what `read` takes is the very sheet that `write` makes for a deposit, and `original` gives the deposit back
 pub accepted : {b : List ℕ} {r : Entry} → ReadCall b r → r .marked .number ≡ 0 → Accepted b r
 accepted {b} {r} c z =
-    let s = taken-ends b (c .bytes) (sym (entry-number (foundOf b)) ∙ ap (λ (x : Entry). x .marked .number) (sym (c .answer)) ∙ z) in
+    let s = taken-ends b (c .bytes) (sym (entry-number b) ∙ ap (λ (x : Entry). x .marked .number) (sym (c .answer)) ∙ z) in
     let e = c .answer ∙ ap entryOf (sym (s .are)) ∙ round-entry (s .front) (s .kind) (s .deposit) (s .permitted) in
     subst (λ b. Accepted b r) (s .are) (subst (Accepted (s .front ++ sheetOf (s .kind) (s .deposit))) (sym e) (accepted-for (s .kind) (s .deposit) (s .permitted) (s .front)))

@@ -7,7 +7,7 @@ use Rattle.words.specs.Kind.{stranded}
 use Rattle.words.specs.Ring.{reading, start, lowest}
 use Rattle.words.specs.Strand.{opposite, strand, keyStart, key}
 use Rattle.ring.specs.Judging.{verdict}
-use Rattle.ring.specs.Answers.{deposit, isKey}
+use Rattle.ring.specs.Answers.{doneWith, deposit, isKey}
 use Rattle.sheet.specs.declared.answer.Found.the-variants.{Sheet, Refused}
 use Rattle.sheet.specs.Sheet.{sheetOf, depositOf}
 use Rattle.sheet.specs.Trailer.{marksIn, wrongMarks, foundOf}
@@ -39,7 +39,7 @@ pub gattaca-written : sheetOf 1 gattaca ≡ gattacaSheet
 unfolding sheetOf key keyStart strand stranded lowest start reading opposite
 gattaca-written = refl
 
-pub gattaca-found : foundOf (N ∷ N ∷ gattacaSheet) ≡ Sheet 7 3 1 1 2
+pub gattaca-found : foundOf (N ∷ N ∷ gattacaSheet) ≡ Sheet (doneWith 7 3 1) 1 2
 unfolding foundOf wrongMarks stranded isKey deposit verdict key keyStart strand lowest start reading opposite
 gattaca-found = refl
 
@@ -55,7 +55,7 @@ abbrev acac : List ℕ
 acac = A ∷ C ∷ A ∷ C ∷ []
 
 -- "For ACAC a sheet with start 1 is taken (its deposit is CACA); with start 2 it gives 7" (01)
-pub acac-one : foundOf (four acac 1 0 1) ≡ Sheet 4 1 0 1 0
+pub acac-one : foundOf (four acac 1 0 1) ≡ Sheet (doneWith 4 1 0) 1 0
 unfolding foundOf wrongMarks stranded isKey deposit verdict key keyStart strand lowest start reading opposite
 acac-one = refl
 

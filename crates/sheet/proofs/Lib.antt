@@ -7,6 +7,7 @@ pub mod Examples
 pub mod Widths
 pub mod Replies
 pub mod Numbers
+pub mod Judged
 pub mod Told
 pub mod Writing
 pub mod Rounds

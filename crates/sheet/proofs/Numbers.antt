@@ -16,22 +16,17 @@ use Rattle.ring.proofs.Rules.{clear-more, done-clear, refused-more}
 use Rattle.ring.proofs.Exactly.{bad-here, good-before, good-all, good-at, bad-is}
 use Rattle.ring.proofs.Deposit.{passes-permitted, passes-key, passes-start, passes-strand, ring-passes}
 use Rattle.sheet.specs.declared.answer.Found.{Found}
-use Rattle.sheet.specs.declared.answer.Found.the-variants.{Sheet, Refused}
+use Rattle.sheet.specs.declared.answer.Found.the-variants.{Refused}
 use Rattle.sheet.specs.Sheet.{Marks, trailerSize, marksOf, depositOf, isMade}
-use Rattle.sheet.specs.Trailer.{trailer, wayBack, marksIn, wrongMarks, badIn, Pointed, sheetRules, sheetIn, foundOf, numberOf, placeOf}
+use Rattle.sheet.specs.Trailer.{trailer, wayBack, marksIn, wrongMarks, badIn, letterRules, sheetRules, sheetIn, foundOf, numberOf, placeOf}
 use Rattle.sheet.specs.Reader.{restoredOf}
 use Rattle.sheet.specs.Demands.{Trailed, Reaches, Lettered, Made, SheetGiven, few, wrong, none, many, far, letter, unmade, sheet, OriginalGiven, as-read, lacking, done}
-use Rattle.sheet.proofs.Replies.{wrong-test, test-wrong, right-test, test-right, says-few, says-wrong, says-none, says-many, says-reach, pointed, length-letters, says-bad, says-unmade, says-made}
+use Rattle.sheet.proofs.Replies.{Pointed, wrong-test, test-wrong, right-test, test-right, says-few, says-wrong, says-none, says-many, says-reach, length-letters, says-bad, says-unmade, says-made}
 
 -- an answer with a number and a place obeys a table that gives them, and gives no other
 pub exactly-given : (Table : ℕ → ℕ → Type 0) (number place k i : ℕ) → Table number place → (Table k i → (number ≡ k) × (place ≡ i))
     → ((number ≡ k) × (place ≡ i)) ↔ Table k i
 exactly-given Table number place k i g one = ((λ e. subst (λ x. Table x i) (e .0) (subst (Table number) (e .1) g)), one)
-
--- a refusal by its number and place
-pub refused-is : (f : Found) → (numberOf f ≡ 0 → ⊥) → f ≡ Refused (numberOf f) (placeOf f)
-refused-is (Sheet n start strand kind before) h = absurd (h refl)
-refused-is (Refused number place) h = refl
 
 -- ---- 7: the test, and some deposit that has these letters and marks
 
@@ -56,12 +51,12 @@ made-test b m = subst (λ x. isMade x ≡ true) (m .is) (ring-passes (m .kind) (
 -- ---- what is found
 
 module _ (b : List ℕ) where
-  reach-pointed : Reaches b → Pointed b (length b - trailerSize) (wayBack b)
+  reach-pointed : Reaches b → Pointed b
   reach-pointed r =
-      pointed b (r .trailed .long) (right-test (trailer b) (r .trailed .right)) (wayBack b) refl (λ e. omega (arith, r .some)) (r .within) (r .reach)
+      record { long = r .trailed .long; right = right-test (trailer b) (r .trailed .right); some = r .some; within = r .within; reach = r .reach }
 
   pub letters-size : Reaches b → length (marksIn b .letters) ≡ wayBack b
-  letters-size r = length-letters b (length b - trailerSize) (wayBack b) (reach-pointed r)
+  letters-size r = length-letters b (reach-pointed r)
 
   -- every letter is one: the first that is none is not there
   no-bad : Lettered b → ltb (badIn b) (length (marksIn b .letters)) ≡ false
@@ -70,27 +65,28 @@ module _ (b : List ℕ) where
       (good-all (marksIn b .kind) (marksIn b .letters) (λ i h. l .letters i (omega (arith, letters-size (l .reaches)))))
 
   pub sheet-found : Lettered b → Made b → sheetIn b ≡ foundOf b
-  sheet-found l m = says-made b (length b - trailerSize) (wayBack b) (reach-pointed (l .reaches)) (no-bad l) (made-test b m)
+  sheet-found l m = says-made b (reach-pointed (l .reaches)) (no-bad l) (made-test b m)
 
   unmade-found : Lettered b → (Made b → ⊥) → Refused 7 0 ≡ foundOf b
   unmade-found l n =
-      says-unmade b (length b - trailerSize) (wayBack b) (reach-pointed (l .reaches)) (no-bad l)
+      says-unmade b (reach-pointed (l .reaches)) (no-bad l)
       (by-test (isMade (marksIn b)) (λ t. absurd (n (test-made b t))) (λ t. t))
 
   bad-found : (r : Reaches b) → badIn b < wayBack b → Refused 3 (badIn b) ≡ foundOf b
-  bad-found r h = says-bad b (length b - trailerSize) (wayBack b) (reach-pointed r) (omega (arith, letters-size r))
+  bad-found r h = says-bad b (reach-pointed r) (omega (arith, letters-size r))
 
   told : {f : Found} → f ≡ foundOf b → (numberOf (foundOf b) ≡ numberOf f) × (placeOf (foundOf b) ≡ placeOf f)
   told e = (ap numberOf (sym e), ap placeOf (sym e))
 
   -- what the table gives is found
   pub given-found : {k i : ℕ} → SheetGiven b k i → (numberOf (foundOf b) ≡ k) × (placeOf (foundOf b) ≡ i)
-  given-found (few h) = told (says-few b h)
-  given-found (wrong h w) = told (says-wrong b h (wrong-test (trailer b) w))
-  given-found (none t e) = told (says-none b (t .long) (right-test (trailer b) (t .right)) (wayBack b) refl e)
-  given-found (many t l) = told (says-many b (t .long) (right-test (trailer b) (t .right)) (wayBack b) refl (λ e. omega (arith, l)) l)
+  unfolding foundOf
+  given-found (few h) = told (says-few b (letterRules b) h)
+  given-found (wrong h w) = told (says-wrong b (letterRules b) h (wrong-test (trailer b) w))
+  given-found (none t e) = told (says-none b (letterRules b) (t .long) (right-test (trailer b) (t .right)) (wayBack b) refl e)
+  given-found (many t l) = told (says-many b (letterRules b) (t .long) (right-test (trailer b) (t .right)) (wayBack b) refl (λ e. omega (arith, l)) l)
   given-found (far t s m l) =
-      told (says-reach b (t .long) (right-test (trailer b) (t .right)) (wayBack b) refl (λ e. omega (arith, s)) m l)
+      told (says-reach b (letterRules b) (t .long) (right-test (trailer b) (t .right)) (wayBack b) refl (λ e. omega (arith, s)) m l)
   given-found (letter r i h n g) =
       let e : badIn b ≡ i = bad-is (marksIn b .kind) (marksIn b .letters) i (omega (arith, letters-size r)) n g in
       let t = told (bad-found r (omega arith)) in (t .0, t .1 ∙ e)
@@ -111,18 +107,20 @@ module _ (b : List ℕ) where
       (λ t. let u : Made b → ⊥ = λ m. true≢false (sym (made-test b m) ∙ t) in subst Gives (unmade-found l u) (unmade l u)))
 
   by-back : Trailed b → wrongMarks (trailer b) ≡ false → Gives (foundOf b)
+  unfolding foundOf
   by-back t w =
       either (lt-or-ge 0 (wayBack b))
       (λ s. let z : wayBack b ≡ 0 → ⊥ = λ e. omega arith in
-      either (lt-or-ge most (wayBack b)) (λ h. subst Gives (says-many b (t .long) w (wayBack b) refl z h) (many t h))
-      (λ m. either (lt-or-ge (length b - trailerSize) (wayBack b)) (λ h. subst Gives (says-reach b (t .long) w (wayBack b) refl z m h) (far t s m h))
+      either (lt-or-ge most (wayBack b)) (λ h. subst Gives (says-many b (letterRules b) (t .long) w (wayBack b) refl z h) (many t h))
+      (λ m. either (lt-or-ge (length b - trailerSize) (wayBack b)) (λ h. subst Gives (says-reach b (letterRules b) (t .long) w (wayBack b) refl z m h) (far t s m h))
       (λ h. by-letters (record { trailed = t; some = s; within = m; reach = h }))))
-      (λ s. let z : wayBack b ≡ 0 = omega arith in subst Gives (says-none b (t .long) w (wayBack b) refl z) (none t z))
+      (λ s. let z : wayBack b ≡ 0 = omega arith in subst Gives (says-none b (letterRules b) (t .long) w (wayBack b) refl z) (none t z))
 
   pub found-given : Gives (foundOf b)
+  unfolding foundOf
   found-given =
-      either (lt-or-ge (length b) trailerSize) (λ h. subst Gives (says-few b h) (few h))
-      (λ h. by-test (wrongMarks (trailer b)) (λ w. subst Gives (says-wrong b h w) (wrong h (test-wrong (trailer b) w)))
+      either (lt-or-ge (length b) trailerSize) (λ h. subst Gives (says-few b (letterRules b) h) (few h))
+      (λ h. by-test (wrongMarks (trailer b)) (λ w. subst Gives (says-wrong b (letterRules b) h w) (wrong h (test-wrong (trailer b) w)))
       (λ w. by-back (record { long = h; right = test-right (trailer b) w }) w))
 
   -- 01's table for a sheet: a number and a place are found exactly when they are given

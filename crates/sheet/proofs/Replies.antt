@@ -1,27 +1,32 @@
 -- Each answer of the trailer reader from what its tests showed.
 -- Assumes nothing.
-use mathlib.Core.Path.{_≡_, refl, sym, ap, ap₂, _∙_}
+use mathlib.Core.Path.{_≡_, refl, sym, ap, _∙_}
 use mathlib.Core.Logic.{_⊎_, inl, inr}
-use mathlib.Core.Bool.{Bool, true, false, cond, not, _||_, _&&_, true≢false}
-use mathlib.Core.List.{List, [], _∷_}
+use mathlib.Core.Bool.{Bool, true, false, not, _||_, _&&_, true≢false}
+use mathlib.Core.List.{List, _++_}
 use Prim.Native.Nat.{ℕ, _≤_, _<_, _+_, _-_}
 use native.Mathlib.Omega.{arith}
-use borrow.Author.Tests.{eq-eqb, ne-eqb, eqb-true, eqb-false, lt-ltb, le-ltb, ltb-true, leb-true, not-true}
+use borrow.Author.Tests.{eq-eqb, ne-eqb, eqb-true, eqb-false, lt-ltb, le-ltb, ltb-true, ltb-false, leb-true, not-true}
 use lib.Dec.{ltb, leb, eqb}
 use lib.ListN.{length, take, drop, getD, length-take, length-drop}
 use lib.Seq.{take-all, drop-drop, getD-drop}
 use Rattle.words.specs.Kind.{known, stranded, strands}
 use Rattle.words.proofs.Kind.{no-strand}
 use Rattle.words.proofs.Search.{by-test, either}
-use Rattle.ring.specs.Rule.{rule, judged}
-use Rattle.ring.specs.Judging.{most, verdict}
-use Rattle.ring.specs.Answers.{isKey, checkedAs, checkedOf}
-use Rattle.ring.specs.declared.answer.Checked.{Checked}
-use Rattle.ring.specs.declared.judge.Verdict.the-variants.{Taken, Letter}
+use Rattle.ring.specs.Rule.{Rule, judged}
+use Rattle.ring.specs.Judging.{most}
+use Rattle.ring.proofs.Rules.{done-clear, refused-more}
+use Rattle.sheet.specs.declared.answer.Found.{Found}
 use Rattle.sheet.specs.declared.answer.Found.the-variants.{Sheet, Refused}
+use Rattle.sheet.specs.declared.answer.Points.{Points}
 use Rattle.sheet.specs.Sheet.{numberIn, width, tagFirst, tagLast, trailerSize, isMade}
-use Rattle.sheet.specs.Trailer.{trailer, startAt, strandAt, kindAt, tagAt, wayBack, before, marksIn, wrongMarks, badIn, Pointed, notMade, sheetIn, foundOf}
+use Rattle.sheet.specs.Trailer.{trailer, startAt, strandAt, kindAt, tagAt, wayBack, before, marksIn, wrongMarks, badIn, sheetIn, formRules, letterRules, foundOf, formOf, pointsIn, numberOf, placeOf}
 use Rattle.sheet.specs.Demands.{Wrong, tag-first, tag-last, no-kind, strand-above, feature-strand}
+
+-- a refusal by its number and place
+pub refused-is : (f : Found) → (numberOf f ≡ 0 → ⊥) → f ≡ Refused (numberOf f) (placeOf f)
+refused-is (Sheet marked kind before) h = absurd (h refl)
+refused-is (Refused number place) h = refl
 
 -- ---- 6
 
@@ -78,7 +83,7 @@ module _ (t : List ℕ) where
     pub right-last : getD t (tagAt + 1) 0 ≡ tagLast
     right-last = by-test (eqb (getD t (tagAt + 1) 0) tagLast) (eqb-true _ _) (λ e. absurd (n (tag-last (eqb-false _ _ e))))
 
-    right-kind : known (getD t kindAt 0) ≡ true
+    pub right-kind : known (getD t kindAt 0) ≡ true
     right-kind = by-test (known (getD t kindAt 0)) (λ e. e) (λ e. absurd (n (no-kind e)))
 
   -- behind a right tag: the strand is none of the n that the kind has
@@ -99,28 +104,27 @@ wrong-is b r t e f =
     let a : take n (trailer b) ≡ trailer b = take-all n (trailer b) (rw length-drop (omega arith)) in
     ap wrongMarks (sym a) ∙ sym e ∙ f
 
-module _ (b : List ℕ) where
-  pub says-few : length b < trailerSize → Refused 5 0 ≡ foundOf b
-  unfolding foundOf
+-- whatever is judged behind them
+module _ (b : List ℕ) (more : List (Rule Found)) where
+  abbrev Says : Found → Type 0
+  Says f = f ≡ judged (formRules b ++ more) (sheetIn b)
+
+  pub says-few : length b < trailerSize → Says (Refused 5 0)
   says-few h = rw (lt-ltb (length b) trailerSize h)
 
   module _ (h5 : trailerSize ≤ length b) where
-    pub says-wrong : wrongMarks (trailer b) ≡ true → Refused 6 0 ≡ foundOf b
-    unfolding foundOf
+    pub says-wrong : wrongMarks (trailer b) ≡ true → Says (Refused 6 0)
     says-wrong h = rw (le-ltb (length b) trailerSize h5, h)
 
     module _ (h6 : wrongMarks (trailer b) ≡ false) (n : ℕ) (e : n ≡ wayBack b) where
-      pub says-none : n ≡ 0 → Refused 1 0 ≡ foundOf b
-      unfolding foundOf
+      pub says-none : n ≡ 0 → Says (Refused 1 0)
       says-none h = rw (le-ltb (length b) trailerSize h5, h6, eq-eqb (wayBack b) 0 (omega arith))
 
       module _ (h1 : n ≡ 0 → ⊥) where
-        pub says-many : most < n → Refused 2 0 ≡ foundOf b
-        unfolding foundOf
+        pub says-many : most < n → Says (Refused 2 0)
         says-many h = rw (le-ltb (length b) trailerSize h5, h6, ne-eqb (wayBack b) 0 (λ z. h1 (e ∙ z)), lt-ltb most (wayBack b) (omega arith))
 
-        pub says-reach : n ≤ most → length b - trailerSize < n → Refused 5 0 ≡ foundOf b
-        unfolding foundOf
+        pub says-reach : n ≤ most → length b - trailerSize < n → Says (Refused 5 0)
         says-reach h2 h =
             rw (
               le-ltb (length b) trailerSize h5,
@@ -130,89 +134,89 @@ module _ (b : List ℕ) where
               lt-ltb (length b - trailerSize) (wayBack b) (omega arith),
             )
 
-        pub pointed : n ≤ most → n ≤ length b - trailerSize → Pointed b (length b - trailerSize) n
-        pointed h2 h = record { long = h5; right = h6; back = e; some = omega arith; within = h2; reach = h; here = refl }
+        pub says-more : n ≤ most → n ≤ length b - trailerSize → judged more (sheetIn b) ≡ judged (formRules b ++ more) (sheetIn b)
+        says-more h2 h =
+            rw (
+              le-ltb (length b) trailerSize h5,
+              h6,
+              ne-eqb (wayBack b) 0 (λ z. h1 (e ∙ z)),
+              le-ltb most (wayBack b) (omega arith),
+              le-ltb (length b - trailerSize) (wayBack b) (omega arith),
+            )
 
--- ---- the letters and marks
+-- ---- a trailer that points to letters
 
-module _ (b : List ℕ) (at n : ℕ) (p : Pointed b at n) where
-  letters-are : take (at - (at - n)) (drop (at - n) b) ≡ marksIn b .letters
-  letters-are =
-      let e : at - (at - n) ≡ wayBack b = omega (arith, p .back, p .reach) in
-      let f : at - n ≡ before b = omega (arith, p .back, p .here) in
-      rw (e, f)
+pub record Pointed (b : List ℕ) : Type 0 where
+  pub long : trailerSize ≤ length b
+  pub right : wrongMarks (trailer b) ≡ false
+  pub some : 0 < wayBack b
+  pub within : wayBack b ≤ most
+  pub reach : wayBack b ≤ length b - trailerSize
 
-  byte-is : (i : ℕ) → getD b (at + i) 0 ≡ getD (trailer b) i 0
-  byte-is i = rw (getD-drop, ← p .here)
+-- the number of the trailer alone: 0 exactly for such a one, and what it refuses is refused so
+module _ (b : List ℕ) where
+  pub form-pointed : formOf b ≡ 0 → Pointed b
+  unfolding formOf
+  form-pointed z =
+      let c = done-clear numberOf 0 (sheetIn b) (formRules b) (omega arith) z in
+      record {
+        long = ltb-false (length b) trailerSize (c .0);
+        right = c .1 .0;
+        some = let z = eqb-false (wayBack b) 0 (c .1 .1 .0) in omega arith;
+        within = ltb-false most (wayBack b) (c .1 .1 .1 .0);
+        reach = ltb-false (length b - trailerSize) (wayBack b) (c .1 .1 .1 .1 .0);
+      }
 
-  start-is : numberIn width (drop (at + startAt) b) ≡ marksIn b .start
-  start-is = rw (p .here) (ap (numberIn width) (sym (drop-drop startAt (length b - trailerSize) b)))
+  -- 3 alone has a place
+  form-place : placeOf (judged (formRules b) (sheetIn b)) ≡ 0
+  form-place =
+      by-test (ltb (length b) trailerSize) (λ t. rw t) (λ t.
+      by-test (wrongMarks (trailer b)) (λ u. rw (t, u)) (λ u.
+      by-test (eqb (wayBack b) 0) (λ v. rw (t, u, v)) (λ v.
+      by-test (ltb most (wayBack b)) (λ x. rw (t, u, v, x)) (λ x.
+      by-test (ltb (length b - trailerSize) (wayBack b)) (λ y. rw (t, u, v, x, y)) (λ y. rw (t, u, v, x, y))))))
 
+  pub form-refused : (formOf b ≡ 0 → ⊥) → (more : List (Rule Found)) → Refused (formOf b) 0 ≡ judged (formRules b ++ more) (sheetIn b)
+  unfolding formOf
+  form-refused n more =
+      ap (Refused (numberOf (judged (formRules b) (sheetIn b)))) (sym form-place) ∙ sym (refused-is (judged (formRules b) (sheetIn b)) n)
+      ∙ sym (refused-more numberOf (formRules b) more (sheetIn b) n)
+
+-- ---- the letters and marks of such a trailer
+
+module _ (b : List ℕ) (p : Pointed b) where
   pub length-letters : length (marksIn b .letters) ≡ wayBack b
-  length-letters = rw (length-take, length-drop) (omega (arith, p .back, p .reach, p .here))
+  length-letters = rw (length-take, length-drop) (omega (arith, p .reach))
 
-  -- no rule before 3 holds
-  from-three : foundOf b ≡ judged (rule (ltb (badIn b) (length (marksIn b .letters))) (Refused 3 (badIn b)) ∷ notMade b ∷ []) (sheetIn b)
-  unfolding foundOf
-  from-three =
-      rw (
-        le-ltb (length b) trailerSize (p .long),
-        p .right,
-        ne-eqb (wayBack b) 0 (omega (arith, p .back, p .some)),
-        le-ltb most (wayBack b) (omega (arith, p .back, p .within)),
-        le-ltb (length b - trailerSize) (wayBack b) (omega (arith, p .back, p .reach, p .here)),
-      )
+  -- only what is judged behind the trailer's rules answers
+  pub from-three : (more : List (Rule Found)) → judged more (sheetIn b) ≡ judged (formRules b ++ more) (sheetIn b)
+  from-three more = says-more b more (p .long) (p .right) (wayBack b) refl (λ e. omega (arith, p .some)) (p .within) (p .reach)
 
   pub says-bad : badIn b < length (marksIn b .letters) → Refused 3 (badIn b) ≡ foundOf b
-  says-bad h = sym (rw (lt-ltb (badIn b) (length (marksIn b .letters)) h) at from-three)
-
-  -- none before 7 holds
-  from-seven : ltb (badIn b) (length (marksIn b .letters)) ≡ false → foundOf b ≡ judged (notMade b ∷ []) (sheetIn b)
-  from-seven t = rw t at from-three
+  unfolding foundOf
+  says-bad h =
+      let a : Refused 3 (badIn b) ≡ judged (letterRules b) (sheetIn b) = rw (lt-ltb (badIn b) (length (marksIn b .letters)) h) in
+      a ∙ from-three (letterRules b)
 
   module _ (t : ltb (badIn b) (length (marksIn b .letters)) ≡ false) where
     pub says-unmade : isMade (marksIn b) ≡ false → Refused 7 0 ≡ foundOf b
-    says-unmade u = sym (rw u at (from-seven t))
+    unfolding foundOf
+    says-unmade u = let a : Refused 7 0 ≡ judged (letterRules b) (sheetIn b) = rw (t, u) in a ∙ from-three (letterRules b)
 
     pub says-made : isMade (marksIn b) ≡ true → sheetIn b ≡ foundOf b
-    says-made u = sym (rw u at (from-seven t))
+    unfolding foundOf
+    says-made u = let a : sheetIn b ≡ judged (letterRules b) (sheetIn b) = rw (t, u) in a ∙ from-three (letterRules b)
 
-  -- the letters judged as a ring: only 3 is left to give
-  checked-here : checkedOf (marksIn b .kind) (marksIn b .letters) ≡ checkedAs (cond (ltb (badIn b) (length (marksIn b .letters))) (Letter (badIn b)) Taken)
-  unfolding verdict
-  checked-here =
-      let l : length (marksIn b .letters) ≡ wayBack b = length-letters in
-      rw (right-kind (trailer b) (test-right (trailer b) (p .right)), ne-eqb (length (marksIn b .letters)) 0 (omega (arith, p .back, p .some)), le-ltb most (length (marksIn b .letters)) (omega (arith, p .back, p .within)))
+-- ---- what the trailer points to, as the code reads it
 
-  module _ (r : Checked) (e : r ≡ checkedOf (getD b (at + kindAt) 0) (take (at - (at - n)) (drop (at - n) b))) where
-    checked-as : r ≡ checkedAs (cond (ltb (badIn b) (length (marksIn b .letters))) (Letter (badIn b)) Taken)
-    checked-as = e ∙ ap₂ checkedOf (byte-is kindAt) letters-are ∙ checked-here
-
-    pub says-letter : (r .number ≡ 0 → ⊥) → Refused (r .number) (r .place) ≡ foundOf b
-    says-letter h =
-        by-test (ltb (badIn b) (length (marksIn b .letters)))
-        (λ t. let f : r ≡ checkedAs (Letter (badIn b)) = rw t at checked-as in ap (λ (x : Checked). Refused (x .number) (x .place)) f ∙ sym (rw t at from-three))
-        (λ t. let f : r ≡ checkedAs Taken = rw t at checked-as in absurd (h (ap (λ (x : Checked). x .number) f)))
-
-    module _ (z : r .number ≡ 0) (s : ℕ) (es : s ≡ numberIn width (drop (at + startAt) b)) where
-      all-letters : ltb (badIn b) (length (marksIn b .letters)) ≡ false
-      all-letters =
-          by-test (ltb (badIn b) (length (marksIn b .letters)))
-          (λ t. let f : r ≡ checkedAs (Letter (badIn b)) = rw t at checked-as in absurd (omega (arith, ap (λ (x : Checked). x .number) f)))
-          (λ t. t)
-
-      same-key : isKey (getD b (at + kindAt) 0) (take (at - (at - n)) (drop (at - n) b)) s (getD b (at + strandAt) 0) ≡ isMade (marksIn b)
-      same-key =
-          ap₂ (λ k w. isKey k w s (getD b (at + strandAt) 0)) (byte-is kindAt) letters-are
-          ∙ ap₂ (isKey (marksIn b .kind) (marksIn b .letters)) (es ∙ start-is) (byte-is strandAt)
-
-      pub says-no-key : isKey (getD b (at + kindAt) 0) (take (at - (at - n)) (drop (at - n) b)) s (getD b (at + strandAt) 0) ≡ false → Refused 7 0 ≡ foundOf b
-      says-no-key t = says-unmade all-letters (sym same-key ∙ t)
-
-      pub says-sheet : isKey (getD b (at + kindAt) 0) (take (at - (at - n)) (drop (at - n) b)) s (getD b (at + strandAt) 0) ≡ true
-          → Sheet n s (getD b (at + strandAt) 0) (getD b (at + kindAt) 0) (at - n) ≡ foundOf b
-      says-sheet t =
-          let f : at - n ≡ before b = omega (arith, p .back, p .here) in
-          ap₂ (λ k σ. Sheet n s σ k (at - n)) (byte-is kindAt) (byte-is strandAt)
-          ∙ ap₂ (λ m x. Sheet m x (marksIn b .strand) (marksIn b .kind) (at - n)) (p .back) (es ∙ start-is)
-          ∙ ap (Sheet (wayBack b) (marksIn b .start) (marksIn b .strand) (marksIn b .kind)) f ∙ says-made all-letters (sym same-key ∙ t)
+pub points-are : (b : List ℕ) (n s : ℕ) → n ≡ numberIn width (drop (length b - trailerSize) b)
+    → s ≡ numberIn width (drop (length b - trailerSize + startAt) b)
+    → _≡_ {A = Points} (record {
+      n = n;
+      start = s;
+      strand = getD b (length b - trailerSize + strandAt) 0;
+      kind = getD b (length b - trailerSize + kindAt) 0;
+      before = length b - trailerSize - n;
+    }) (pointsIn b)
+points-are b n s e f =
+    rw (e, f, ← drop-drop startAt (length b - trailerSize) b, ← getD-drop (length b - trailerSize) b strandAt 0, ← getD-drop (length b - trailerSize) b kindAt 0)

@@ -16,10 +16,11 @@ use Rattle.ring.specs.declared.judge.Verdict.the-variants.{Taken}
 use Rattle.ring.specs.declared.answer.Checked.{Checked}
 use Rattle.ring.specs.declared.answer.Marked.{Marked}
 use Rattle.ring.specs.Judging.{Permitted, over, after}
-use Rattle.ring.specs.Answers.{markedAs}
+use Rattle.ring.specs.Answers.{doneWith, markedAs}
 use Rattle.ring.proofs.Exactly.{permitted-taken}
 use Rattle.ring.proofs.Compared.{length-key}
-use Rattle.ring.proofs.Deposit.{deposit-back, permitted-key, start-below}
+use Rattle.ring.proofs.Marks.{start-below}
+use Rattle.ring.proofs.Deposit.{deposit-back, permitted-key}
 use Rattle.sheet.specs.declared.answer.Found.the-variants.{Sheet}
 use Rattle.sheet.specs.declared.answer.Entry.{Entry}
 use Rattle.sheet.specs.Sheet.{Marks, base, numberIn, width, tagFirst, tagLast, tag, trailerSize, trailerOf, bytesOf, marksOf, sheetOf, depositOf, writeVerdict}
@@ -133,17 +134,17 @@ module _ (pre : List ℕ) (kind : ℕ) (w : List ℕ) (p : Permitted kind w) whe
   written-made : Made (pre ++ sheetOf kind w)
   written-made = record { kind = kind; deposit = w; permitted = p; is = sym marks-written }
 
-  sheet-in : sheetIn (pre ++ sheetOf kind w) ≡ Sheet (length w) (keyStart kind w) (strand kind w) kind (length pre)
+  sheet-in : sheetIn (pre ++ sheetOf kind w) ≡ Sheet (doneWith (length w) (keyStart kind w) (strand kind w)) kind (length pre)
   unfolding sheetOf
   sheet-in =
       let m : Marks = marksOf kind w in
-      ap (λ (x : Marks). Sheet (wayBack (pre ++ sheetOf kind w)) (x .start) (x .strand) (x .kind) (at-end.before (pre ++ sheetOf kind w)))
+      ap (λ (x : Marks). Sheet (doneWith (wayBack (pre ++ sheetOf kind w)) (x .start) (x .strand)) (x .kind) (at-end.before (pre ++ sheetOf kind w)))
       (marks-bytes pre m (size-held kind w p) (start-held kind w p))
-      ∙ ap₂ (λ n b. Sheet n (keyStart kind w) (strand kind w) kind b)
+      ∙ ap₂ (λ n b. Sheet (doneWith n (keyStart kind w) (strand kind w)) kind b)
       (way-back pre m (size-held kind w p) ∙ length-key kind w (p .some)) (before-bytes pre m (size-held kind w p))
 
   -- behind whatever stands before, the sheet of a permitted ring is found
-  pub found-written : foundOf (pre ++ sheetOf kind w) ≡ Sheet (length w) (keyStart kind w) (strand kind w) kind (length pre)
+  pub found-written : foundOf (pre ++ sheetOf kind w) ≡ Sheet (doneWith (length w) (keyStart kind w) (strand kind w)) kind (length pre)
   found-written = sym (sheet-found (pre ++ sheetOf kind w) written-lettered written-made) ∙ sheet-in
 
   -- it is read back to its marks and kind
@@ -162,7 +163,7 @@ module _ (pre : List ℕ) (kind : ℕ) (w : List ℕ) (p : Permitted kind w) whe
   round-deposit = ap depositOf marks-written ∙ deposit-back kind w p
 
   module _ (room : List ℕ) (h : length w ≤ length room) where
-    restored-written : restoredOf (pre ++ sheetOf kind w) (length room) ≡ Sheet (length w) (keyStart kind w) (strand kind w) kind (length pre)
+    restored-written : restoredOf (pre ++ sheetOf kind w) (length room) ≡ Sheet (doneWith (length w) (keyStart kind w) (strand kind w)) kind (length pre)
     restored-written = restored-done (pre ++ sheetOf kind w) (length room) (ap numberOf found-written) (omega (arith, back-written)) ∙ sheet-in
 
     round-original : originalOf (pre ++ sheetOf kind w) (length room) ≡ record { number = 0; place = 0 }

@@ -7,13 +7,14 @@ use native.Mathlib.Omega.{arith}
 use native.Mathlib.Numerals.{add-one}
 use lib.ListN.{length, take, drop, length-take}
 use lib.Seq.{take-take, take-length, length-take-le}
+use Rattle.ring.specs.declared.answer.Marked.{Marked}
 use Rattle.sheet.specs.declared.answer.Found.{Found}
 use Rattle.sheet.specs.declared.answer.Found.the-variants.{Sheet, Refused}
 use Rattle.sheet.specs.declared.answer.Walked.{Walked}
 use Rattle.sheet.specs.Sheet.{trailerSize}
 use Rattle.sheet.specs.Trailer.{foundOf}
 use Rattle.sheet.specs.Book.{stepAs, walkBack, walkOf, walkedAs, walkedOf}
-use Rattle.sheet.proofs.Told.{told-long, told-within}
+use Rattle.sheet.proofs.Told.{told-fits}
 use Rattle.sheet.proofs.Books.{walk-none, walk-step}
 
 pub record Walking (book : List ℕ) (rest sheets : ℕ) : Type 0 where
@@ -46,15 +47,15 @@ module _ (book : List ℕ) (rest sheets : ℕ) (w : Walking book rest sheets) (h
       let f : w .fuel ≡ suc (w .fuel - 1) = omega (arith, w .enough) in
       w .same ∙ ap (λ x. walkBack x (take rest book) (w .behind)) f ∙ walk-step (w .fuel - 1) (take rest book) (w .behind) r (omega (arith, size-rest)) (sym e)
 
-  module _ (n s σ k bf : ℕ) (e : Sheet n s σ k bf ≡ foundOf (take rest book)) where
+  module _ (m : Marked) (k bf : ℕ) (e : Sheet m k bf ≡ foundOf (take rest book)) where
     pub walking-less : bf + trailerSize ≤ rest
-    walking-less = omega (arith, told-within (take rest book) n s σ k bf e, told-long (take rest book) n s σ k bf e, size-rest)
+    walking-less = omega (arith, told-fits (take rest book) m k bf e, size-rest)
 
     pub walking-on : Walking book bf (sheets + 1)
     walking-on = record {
       fuel = w .fuel - 1;
       behind = drop bf (take rest book) ∷ w .behind;
-      same = stepped (Sheet n s σ k bf) e
+      same = stepped (Sheet m k bf) e
           ∙ ap (λ b. walkBack (w .fuel - 1) b (drop bf (take rest book) ∷ w .behind)) (take-take bf rest book (omega (arith, walking-less)));
       enough = omega (arith, w .enough, walking-less);
       size = rw add-one (ap suc (w .size));

@@ -16,7 +16,7 @@ pub length-in : (k x : ℕ) → length (bytesIn k x) ≡ k
 length-in zero x = refl
 length-in (suc k) x = ap suc (length-in k (x / base))
 
-pub bytes-below : (k x i : ℕ) → getD (bytesIn k x) i 0 < base
+pub bytes-below : (k x : ℕ) → Bytes (bytesIn k x)
 bytes-below zero x i = omega arith
 bytes-below (suc k) x zero = omega arith
 bytes-below (suc k) x (suc i) = bytes-below k (x / base) i

@@ -22,7 +22,7 @@ pub data Walk : Type 0 where
 
 -- one step: the sheet found, and the walk of what stands before it; "a refusal there ends the walk and refuses the book with that number" (01)
 abbrev pub stepAs : Found → (ℕ → Walk) → Walk
-stepAs (Sheet n start strand kind before) rest = rest before
+stepAs (Sheet marked kind before) rest = rest before
 stepAs (Refused number place) rest = stopped number place
 
 -- "The sheet nearest the end is read first" (01). ss stands behind the book; each step shortens the book, so as many steps as bytes are enough

@@ -1,6 +1,5 @@
 -- The answers of the calls that read a sheet (01, "The catalogue sheet"), for refused bytes too.
 -- Assumes nothing.
-use mathlib.Core.Bool.{cond}
 use mathlib.Core.List.{List, [], _∷_, _++_}
 use Prim.Native.Nat.{ℕ}
 use lib.Dec.{ltb}
@@ -8,7 +7,7 @@ use lib.ListN.{length, take, drop}
 use Rattle.ring.specs.declared.answer.Checked.{Checked}
 use Rattle.ring.specs.Rule.{rule, judged}
 use Rattle.ring.specs.Judging.{over}
-use Rattle.ring.specs.Answers.{fewer, deposit}
+use Rattle.ring.specs.Answers.{refusalOf}
 use Rattle.sheet.specs.declared.answer.Found.{Found}
 use Rattle.sheet.specs.declared.answer.Found.the-variants.{Sheet, Refused}
 use Rattle.sheet.specs.declared.answer.Entry.{Entry}
@@ -17,16 +16,15 @@ use Rattle.sheet.specs.Trailer.{wayBack, marksIn, sheetRules, sheetIn, f
 
 -- "start, strand, kind and how many bytes stand before"; "other fields are 0" (01)
 abbrev pub entryAs : Found → Entry
-entryAs (Sheet n start strand kind before) =
-    record { marked = record { number = 0; place = 0; n = n; start = start; strand = strand }; kind = kind; before = before }
-entryAs (Refused number place) = record { marked = record { number = number; place = place; n = 0; start = 0; strand = 0 }; kind = 0; before = 0 }
+entryAs (Sheet marked kind before) = record { marked = marked; kind = kind; before = before }
+entryAs (Refused number place) = record { marked = refusalOf number place; kind = 0; before = 0 }
 
 abbrev pub entryOf : List ℕ → Entry
 entryOf b = entryAs (foundOf b)
 
 -- "the key as a part of the lent bytes"; "A declined call hands back an empty part at the front of the lent bytes" (01)
 abbrev pub partAs : List ℕ → Found → List ℕ
-partAs b (Sheet n start strand kind before) = take n (drop before b)
+partAs b (Sheet marked kind before) = take (marked .n) (drop before b)
 partAs b (Refused number place) = []
 
 abbrev pub partOf : List ℕ → List ℕ
@@ -39,12 +37,8 @@ restoredOf b size = judged (sheetRules b ++ rule (ltb size (wayBack b)) (Refused
 abbrev pub originalOf : List ℕ → ℕ → Checked
 originalOf b size = record { number = numberOf (restoredOf b size); place = placeOf (restoredOf b size) }
 
--- a room with the deposit of letters and marks written, as it was where it is too short
-abbrev pub restoredIn : List ℕ → ℕ → ℕ → List ℕ → List ℕ
-restoredIn letters start strand room = cond (fewer (length room) letters) room (over (deposit letters start strand) room)
-
 abbrev pub roomAs : Found → List ℕ → List ℕ → List ℕ
-roomAs (Sheet n start strand kind before) new old = over new old
+roomAs (Sheet marked kind before) new old = over new old
 roomAs (Refused number place) new old = old
 
 abbrev pub originalRoom : List ℕ → List ℕ → List ℕ

@@ -19,11 +19,11 @@ pub record Marks : Type 0 where
   pub strand : ℕ
   pub kind : ℕ
 
--- the values of a byte
+-- how many values a byte has
 abbrev pub base : ℕ
 base = 256
 
--- k bytes of a number, "low byte first" (01): a number below base ^ k whole
+-- k bytes of a number, "low byte first" (01); a number below base ^ k is whole in them
 abbrev pub bytesIn : ℕ → ℕ → List ℕ
 bytesIn zero x = []
 bytesIn (suc k) x = x % base ∷ bytesIn k (x / base)

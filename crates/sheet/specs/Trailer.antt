@@ -1,23 +1,24 @@
 -- What stands at the end of lent bytes: a sheet, or the number of its refusal (01, "The catalogue sheet", "Order for a sheet").
 -- Assumes nothing.
-use mathlib.Core.Path.{_≡_}
-use mathlib.Core.Bool.{Bool, false, not, _||_, _&&_}
+use mathlib.Core.Bool.{Bool, not, _||_, _&&_}
 use mathlib.Core.List.{List, [], _∷_, _++_}
-use Prim.Native.Nat.{ℕ, _+_, _-_, _≤_, _<_}
+use Prim.Native.Nat.{ℕ, _+_, _-_, _<_}
 use lib.Dec.{ltb, eqb}
 use lib.ListN.{length, take, drop, getD}
 use Rattle.words.specs.Kind.{known, stranded}
 use Rattle.ring.specs.Rule.{Rule, rule, judged}
 use Rattle.ring.specs.Judging.{most, firstBad}
+use Rattle.ring.specs.Answers.{doneWith}
 use Rattle.sheet.specs.declared.answer.Found.{Found}
 use Rattle.sheet.specs.declared.answer.Found.the-variants.{Sheet, Refused}
+use Rattle.sheet.specs.declared.answer.Points.{Points}
 use Rattle.sheet.specs.Sheet.{Marks, base, numberIn, width, tagFirst, tagLast, trailerSize, isMade}
 
 -- what lent bytes hold
 abbrev pub Bytes : List ℕ → Type 0
 Bytes b = (i : ℕ) → getD b i 0 < base
 
--- "a trailer of 8 bytes" (01), the last
+-- the last bytes: "a trailer of 8 bytes" (01)
 abbrev pub trailer : List ℕ → List ℕ
 trailer b = drop (length b - trailerSize) b
 
@@ -62,7 +63,11 @@ wrongMarks t = wrongAs (getD t tagAt 0) (getD t (tagAt + 1) 0) (getD t kindAt 0)
 abbrev pub badIn : List ℕ → ℕ
 badIn b = firstBad (marksIn b .kind) (marksIn b .letters)
 
--- "Order for a sheet: 5 for fewer than 8 bytes, 6, 1, 2, 5 for the way back, 3" (01)
+-- "start, strand, kind and how many bytes stand before" (01): the sheet that the trailer points to
+abbrev pub sheetIn : List ℕ → Found
+sheetIn b = Sheet (doneWith (wayBack b) (marksIn b .start) (marksIn b .strand)) (marksIn b .kind) (before b)
+
+-- "Order for a sheet: 5 for fewer than 8 bytes, 6, 1, 2, 5 for the way back" (01), of the trailer alone
 abbrev pub formRules : List ℕ → List (Rule Found)
 formRules b =
     rule (ltb (length b) trailerSize) (Refused 5 0)
@@ -70,29 +75,15 @@ formRules b =
     ∷ rule (eqb (wayBack b) 0) (Refused 1 0)
     ∷ rule (ltb most (wayBack b)) (Refused 2 0)
     ∷ rule (ltb (length b - trailerSize) (wayBack b)) (Refused 5 0)
-    ∷ rule (ltb (badIn b) (length (marksIn b .letters))) (Refused 3 (badIn b))
     ∷ []
 
--- bytes whose trailer, at `at`, passed the rules before 3, and points n letters back
-pub record Pointed (b : List ℕ) (at n : ℕ) : Type 0 where
-  pub long : trailerSize ≤ length b
-  pub right : wrongMarks (trailer b) ≡ false
-  pub back : n ≡ wayBack b
-  pub some : 0 < n
-  pub within : n ≤ most
-  pub reach : n ≤ at
-  pub here : at ≡ length b - trailerSize
-
--- 7: "the sheet's letters and marks are not what the writer makes for any deposit" (01)
-abbrev pub notMade : List ℕ → Rule Found
-notMade b = rule (not (isMade (marksIn b))) (Refused 7 0)
+-- "3, 7" (01), of the letters that it points to; 7: "the sheet's letters and marks are not what the writer makes for any deposit"
+abbrev pub letterRules : List ℕ → List (Rule Found)
+letterRules b =
+    rule (ltb (badIn b) (length (marksIn b .letters))) (Refused 3 (badIn b)) ∷ rule (not (isMade (marksIn b))) (Refused 7 0) ∷ []
 
 abbrev pub sheetRules : List ℕ → List (Rule Found)
-sheetRules b = formRules b ++ notMade b ∷ []
-
--- "start, strand, kind and how many bytes stand before" (01)
-abbrev pub sheetIn : List ℕ → Found
-sheetIn b = Sheet (wayBack b) (marksIn b .start) (marksIn b .strand) (marksIn b .kind) (before b)
+sheetRules b = formRules b ++ letterRules b
 
 unfoldable pub foundOf : List ℕ → Found
 foundOf b = judged (sheetRules b) (sheetIn b)
@@ -100,9 +91,17 @@ foundOf b = judged (sheetRules b) (sheetIn b)
 -- ---- 01's number and values for each case
 
 abbrev pub numberOf : Found → ℕ
-numberOf (Sheet n start strand kind before) = 0
+numberOf (Sheet marked kind before) = 0
 numberOf (Refused number place) = number
 
 abbrev pub placeOf : Found → ℕ
-placeOf (Sheet n start strand kind before) = 0
+placeOf (Sheet marked kind before) = 0
 placeOf (Refused number place) = place
+
+-- ---- in two steps: the number by the trailer alone, and what it points to
+
+unfoldable pub formOf : List ℕ → ℕ
+formOf b = numberOf (judged (formRules b) (sheetIn b))
+
+abbrev pub pointsIn : List ℕ → Points
+pointsIn b = record { n = wayBack b; start = marksIn b .start; strand = marksIn b .strand; kind = marksIn b .kind; before = before b }

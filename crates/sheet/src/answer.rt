@@ -4,13 +4,20 @@ use ring::Marked;
 // What stands at the end of lent bytes: a sheet, or the number of its refusal with its place.
 pub enum Found {
     Sheet {
-        n: usize,
-        start: usize,
-        strand: u8,
+        marked: Marked,
         kind: u8,
         before: usize,
     },
     Refused(u8, usize),
+}
+
+// What a trailer points to: n letters behind the bytes before, and the marks that it has for them.
+pub struct Points {
+    pub n: usize,
+    pub start: usize,
+    pub strand: u8,
+    pub kind: u8,
+    pub before: usize,
 }
 
 // A sheet read: the key's marks, its kind, and how many bytes stand before it.

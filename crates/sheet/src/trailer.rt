@@ -4,13 +4,14 @@ ghost use Prim.Native.Nat.{_+_, _≤_};
 ghost use lib.ListN.{length, drop};
 ghost use Rattle.ring.specs.Judging.{over};
 ghost use Rattle.sheet.specs.Sheet.{bytesIn, numberIn, width, trailerSize, trailerOf};
-ghost use Rattle.sheet.specs.Trailer.{wrongMarks, Pointed, foundOf};
+ghost use Rattle.sheet.specs.Trailer.{wrongMarks, formOf, pointsIn, foundOf};
 use super::answer::Found;
+use super::answer::Points;
 
 // The most letters that a ring has, `most` of the ring rules: crate `ring` lends out no constant of it, so it is named here too.
 const MOST: usize = 8192;
 
-// The values of a byte, and the bytes of a number in a trailer.
+// How many values a byte has, and how many bytes a number of a trailer.
 const BASE: usize = 256;
 
 const WIDTH: usize = 2;
@@ -73,54 +74,65 @@ pub fn wrong(t: &[u8]) -> bool
     ring::strands_of(t[KIND_AT]) <= t[STRAND_AT]
 }
 
-// What stands at the end of the bytes: the rules in the order 5, 6, 1, 2, 5, 3, 7.
-pub fn trailer(bytes: &[u8]) -> Found
-    ensures { λ r. ⌜ r ≡ foundOf (now (bytes .entry)) ⌝ }
+// The number that the trailer alone is refused with, by the rules in the order 5, 6, 1, 2, 5; 0 where it points to letters.
+pub fn form(bytes: &[u8]) -> u8
+    ensures { λ r. ⌜ r ≡ formOf (now (bytes .entry)) ⌝ }
 {
     let len = bytes.len();
     if len < SIZE {
-        return Found::Refused(5, 0);
+        return 5;
     }
     let at = len - SIZE;
-    let t = &bytes[at..];
-    if wrong(t) {
-        return Found::Refused(6, 0);
+    if wrong(&bytes[at..]) {
+        return 6;
     }
     let n = number(bytes, at);
     if n == 0 {
-        return Found::Refused(1, 0);
+        return 1;
     }
     if MOST < n {
-        return Found::Refused(2, 0);
+        return 2;
     }
     if at < n {
-        return Found::Refused(5, 0);
+        return 5;
     }
-    lettered(bytes, at, n)
+    0
 }
 
-// The letters and marks of a sheet whose trailer stands at `at` and points n letters back: 3, 7, or the sheet.
-fn lettered(bytes: &[u8], at: usize, n: usize) -> Found
-    requires { ⌜ Pointed (now bytes) at n ⌝ }
+// What the trailer points to.
+pub fn points(bytes: &[u8]) -> Points
+    requires { ⌜ formOf (now bytes) ≡ 0 ⌝ }
+    ensures { λ r. ⌜ r ≡ pointsIn (now (bytes .entry)) ⌝ }
+{
+    let at = bytes.len() - SIZE;
+    let n = number(bytes, at);
+    Points {
+        n,
+        start: number(bytes, at + START_AT),
+        strand: bytes[at + STRAND_AT],
+        kind: bytes[at + KIND_AT],
+        before: at - n,
+    }
+}
+
+// What stands at the end of the bytes: the trailer's rules, then 3 and 7 by the ring rules.
+pub fn trailer(bytes: &[u8]) -> Found
     ensures { λ r. ⌜ r ≡ foundOf (now (bytes .entry)) ⌝ }
 {
-    let before = at - n;
-    let kind = bytes[at + KIND_AT];
-    let letters = &bytes[before..at];
-    let checked = ring::check(letters, kind);
-    if checked.number != 0 {
-        return Found::Refused(checked.number, checked.place);
+    let refused = form(bytes);
+    if refused != 0 {
+        return Found::Refused(refused, 0);
     }
-    let start = number(bytes, at + START_AT);
-    let strand = bytes[at + STRAND_AT];
-    if !ring::is_key(letters, kind, start, strand) {
-        return Found::Refused(7, 0);
+    let p = points(bytes);
+    let before = p.before;
+    let end = before + p.n;
+    let marked = ring::check_key(&bytes[before..end], p.kind, p.start, p.strand);
+    if marked.number != 0 {
+        return Found::Refused(marked.number, marked.place);
     }
     Found::Sheet {
-        n,
-        start,
-        strand,
-        kind,
+        marked,
+        kind: p.kind,
         before,
     }
 }

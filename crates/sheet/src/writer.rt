@@ -1,32 +1,32 @@
 // The catalogue sheet of a ring, written to a lent room.
 ghost use mathlib.Core.Path.{_≡_};
+ghost use Prim.Native.Nat.{_-_};
 ghost use lib.ListN.{length};
-ghost use Rattle.sheet.specs.Sheet.{writtenOf, writtenRoom};
+ghost use Rattle.sheet.specs.Sheet.{trailerSize, writtenOf, writtenRoom};
 use super::trailer;
 use ring::Marked;
 
-// Writes the key's letters and then the trailer: 6, 1, 2, 3, and 4 for fewer than n bytes and the trailer's.
+// How many bytes of a room are left for letters where a trailer stands behind them.
+fn letter_space(size: usize) -> usize
+    ensures { λ r. ⌜ r ≡ size - trailerSize ⌝ }
+{
+    if size < trailer::SIZE {
+        return 0;
+    }
+    size - trailer::SIZE
+}
+
+// Writes the key's letters and then the trailer: 6, 1, 2, 3, and 4 for fewer bytes than both have.
 pub fn write(ring: &[u8], kind: u8, room: &mut [u8]) -> Marked
     ensures { λ r. ⌜ r ≡ writtenOf kind (now (ring .entry)) (length (now (room .entry))) ⌝ }
     ensures { λ _. ⌜ now (room .exit) ≡ writtenRoom kind (now (ring .entry)) (now (room .entry)) ⌝ }
 {
-    let m = ring::mark(ring, kind);
+    let space = letter_space(room.len());
+    let m = ring::write_letters(ring, kind, &mut room[..space]);
     if m.number != 0 {
         return m;
     }
     let n = m.n;
-    let start = m.start;
-    let strand = m.strand;
-    if room.len() < n + trailer::SIZE {
-        return Marked {
-            number: 4,
-            place: 0,
-            n: 0,
-            start: 0,
-            strand: 0,
-        };
-    }
-    ring::write_reading(ring, strand, start, room);
-    trailer::put_trailer(&mut room[n..], n, start, strand, kind);
+    trailer::put_trailer(&mut room[n..], n, m.start, m.strand, kind);
     m
 }

@@ -43,7 +43,7 @@ loop-less c =
     let l : tie.At-loop Inv-loop μ-loop = search needs in
     let i : tie.In-loop Inv-loop μ-loop = search needs in
     let t : tie.After-trailer Inv-loop μ-loop = search needs in
-    omega (arith, walking-less (s .args .book .now) _ _ (l .loop .inv) (i .loop-test .taken) _ _ _ _ _ (sym (c .before .before2 .given .1) ∙ t .trailer .ensures))
+    omega (arith, walking-less (s .args .book .now) _ _ (l .loop .inv) (i .loop-test .taken) _ _ _ (sym (c .before .before2 .given .1) ∙ t .trailer .ensures))
 
 loop-again : tie.Need-loop-again Inv-loop μ-loop
 loop-again c =
@@ -51,7 +51,7 @@ loop-again c =
     let l : tie.At-loop Inv-loop μ-loop = search needs in
     let i : tie.In-loop Inv-loop μ-loop = search needs in
     let t : tie.After-trailer Inv-loop μ-loop = search needs in
-    walking-on (s .args .book .now) _ _ (l .loop .inv) (i .loop-test .taken) _ _ _ _ _ (sym (c .before .before2 .given .1) ∙ t .trailer .ensures)
+    walking-on (s .args .book .now) _ _ (l .loop .inv) (i .loop-test .taken) _ _ _ (sym (c .before .before2 .given .1) ∙ t .trailer .ensures)
 
 enum-known-number : tie.Need-enum-known-number Inv-loop μ-loop
 enum-known-number c = search needs

@@ -1,67 +1,77 @@
--- `sheet::reader::original` meets its contract. What the trailer's answer says is what the call writes, by `Told`.
+-- `sheet::reader::original` meets its contract. The trailer's own number, then what the ring rules say and write, by `Judged`.
 -- Assumes nothing.
-use mathlib.Core.Path.{sym, _∙_}
-use lib.ListN.{length}
-use Rattle.sheet.proofs.Told.{told-done, told-start, told-strand, told-long, told-within, told-part, told-below, original-refused, room-refused, original-done, room-done}
+use mathlib.Core.Path.{sym, ap, _∙_}
 use borrow.Author.Needs.{needs}
+use Rattle.sheet.proofs.Judged.{points-fit, original-refused, original-done, original-room}
 use Rattle.sheet.proofs.reader.original.Statement.{statement}
 use Rattle.sheet.proofs.reader.original.Tie as tie
 
-trailer-requires : tie.Need-trailer-requires
-trailer-requires c κs = search needs
-
-enum-known-number : tie.Need-enum-known-number
-enum-known-number c = search needs
-
-enum-known-start : tie.Need-enum-known-start
-enum-known-start c = search needs
-
-sub-at : tie.Need-sub-at
-sub-at c = told-long (c .before .before .before .before .before .before .args .bytes .now) _ _ _ _ _ (sym (c .before .start .given .1) ∙ c .before .before .before .trailer .ensures)
-
-sub-restore : tie.Need-sub-restore
-sub-restore c = told-within (c .before .before .before .before .before .before .args .bytes .now) _ _ _ _ _ (sym (c .before .start .given .1) ∙ c .before .before .before .trailer .ensures)
-
-part-restore-start : tie.Need-part-restore-start
-part-restore-start c =
-    let h = told-within (c .before .before .before .before .before .before .args .bytes .now) _ _ _ _ _ (sym (c .before .start .given .1) ∙ c .before .before .before .trailer .ensures) in
-    let l = told-long (c .before .before .before .before .before .before .args .bytes .now) _ _ _ _ _ (sym (c .before .start .given .1) ∙ c .before .before .before .trailer .ensures) in
-    search needs
-
-part-restore-end : tie.Need-part-restore-end
-part-restore-end c = search needs
-
-restore-requires : tie.Need-restore-requires
-restore-requires c κs = told-below (c .before .before .before .before .before .before .before .before .args .bytes .now) _ _ _ _ _ (sym (c .before .before .before .start .given .1) ∙ c .before .before .before .before .before .trailer .ensures)
+form-requires : tie.Need-form-requires
+form-requires c κs = search needs
 
 returns : tie.Need-returns
 returns c =
-    let s = c .before .before .before .before .before .before in
-    let e = sym (c .before .number .given .1) ∙ c .before .before .before .trailer .ensures in
-    (original-refused (s .args .bytes .now) _ _ e (length (s .args .room .now)), room-refused (s .args .bytes .now) _ _ e (s .args .room .now))
+    let s : tie.Start = search needs in
+    let f : tie.After-form = search needs in
+    let e = f .form .ensures in
+    let o = original-refused (s .args .bytes .now) (s .args .room .now) (λ z. c .if1 .taken (e ∙ z)) in
+    (ap (λ n. record { number = n; place = 0 }) e ∙ o .0, o .1)
+
+points-requires : tie.Need-points-requires
+points-requires c κs =
+    let f : tie.After-form = search needs in
+    sym (f .form .ensures) ∙ c .if1 .left
+
+add-end : tie.Need-add-end
+add-end c =
+    let f : tie.After-form = search needs in
+    let l : tie.Else1 = search needs in
+    let p : tie.After-points = search needs in
+    let h = points-fit _ (sym (f .form .ensures) ∙ l .if1 .left) _ (p .points .ensures) in
+    search needs
+
+sub-write-deposit : tie.Need-sub-write-deposit
+sub-write-deposit c = search needs
+
+part-write-deposit-start : tie.Need-part-write-deposit-start
+part-write-deposit-start c = search needs
+
+part-write-deposit-end : tie.Need-part-write-deposit-end
+part-write-deposit-end c =
+    let f : tie.After-form = search needs in
+    let l : tie.Else1 = search needs in
+    let p : tie.After-points = search needs in
+    points-fit _ (sym (f .form .ensures) ∙ l .if1 .left) _ (p .points .ensures)
+
+write-deposit-requires : tie.Need-write-deposit-requires
+write-deposit-requires c κs = search needs
 
 same-length : tie.Need-same-length
 same-length c = search needs
 
 returns-2 : tie.Need-returns-2
 returns-2 c =
-    let s = c .before .before .before .before .before .before .before .before .before .before .before in
-    let z = told-done (c .before .before .before .before .before .before .before .before .before .before .before .args .bytes .now) _ _ _ _ _ (sym (c .before .before .before .before .before .before .start .given .1) ∙ c .before .before .before .before .before .before .before .before .trailer .ensures) in
-    let p = told-part (c .before .before .before .before .before .before .before .before .before .before .before .args .bytes .now) _ _ _ _ _ (sym (c .before .before .before .before .before .before .start .given .1) ∙ c .before .before .before .before .before .before .before .before .trailer .ensures) in
-    (c .before .before .restore .ensures .0 ∙ original-done (s .args .bytes .now) z _ p (length (s .args .room .now)), c .before .before .restore .ensures .1 ∙ room-done (s .args .bytes .now) z _ p _ _ (s .args .room .now) (told-start (c .before .before .before .before .before .before .before .before .before .before .before .args .bytes .now) _ _ _ _ _ (sym (c .before .before .before .before .before .before .start .given .1) ∙ c .before .before .before .before .before .before .before .before .trailer .ensures)) (told-strand (c .before .before .before .before .before .before .before .before .before .before .before .args .bytes .now) _ _ _ _ _ (sym (c .before .before .before .before .before .before .start .given .1) ∙ c .before .before .before .before .before .before .before .before .trailer .ensures)))
+    let s : tie.Start = search needs in
+    let f : tie.After-form = search needs in
+    let l : tie.Else1 = search needs in
+    let p : tie.After-points = search needs in
+    let d : tie.After-write-deposit = search needs in
+    let z = sym (f .form .ensures) ∙ l .if1 .left in (
+      original-done (s .args .bytes .now) z (p .points .result) (p .points .ensures) (s .args .room .now) (d .write-deposit .result) (d .write-deposit .ensures .0),
+      original-room (s .args .bytes .now) z (p .points .result) (p .points .ensures) (s .args .room .now) _ (d .write-deposit .ensures .1),
+    )
 
 pub original-spec : {M : Type 1} → statement M
 original-spec =
     tie.close
     (tie.spec
-    trailer-requires
-    enum-known-number
-    enum-known-start
-    sub-at
-    sub-restore
-    part-restore-start
-    part-restore-end
-    restore-requires
+    form-requires
     returns
+    points-requires
+    add-end
+    sub-write-deposit
+    part-write-deposit-start
+    part-write-deposit-end
+    write-deposit-requires
     same-length
     returns-2)

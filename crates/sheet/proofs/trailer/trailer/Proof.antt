@@ -1,94 +1,83 @@
--- `sheet::trailer::trailer` meets its contract. Each answer is the first rule that holds, by `Replies`.
+-- `sheet::trailer::trailer` meets its contract. The trailer's own number, then what the ring rules say of its letters, by `Judged`.
 -- Assumes nothing.
-use Rattle.sheet.proofs.Replies.{wrong-is, says-few, says-wrong, says-none, says-many, says-reach, pointed}
+use mathlib.Core.Path.{sym, ap, _∙_}
 use borrow.Author.Needs.{needs}
+use Rattle.sheet.specs.declared.answer.Found.the-variants.{Refused}
+use Rattle.sheet.specs.Trailer.{letterRules, foundOf}
+use Rattle.sheet.proofs.Replies.{form-refused}
+use Rattle.sheet.proofs.Judged.{points-fit, key-refused, key-found}
 use Rattle.sheet.proofs.trailer.trailer.Statement.{statement}
 use Rattle.sheet.proofs.trailer.trailer.Tie as tie
 
+form-requires : tie.Need-form-requires
+form-requires c κs = search needs
+
 returns : tie.Need-returns
+unfolding foundOf
 returns c =
     let s : tie.Start = search needs in
-    says-few (s .args .bytes .now) (c .if1 .taken)
+    let f : tie.After-form = search needs in
+    let e = f .form .ensures in
+    ap (λ n. Refused n 0) e ∙ form-refused (s .args .bytes .now) (λ z. c .if1 .taken (e ∙ z)) (letterRules (s .args .bytes .now))
 
-sub-t : tie.Need-sub-t
-sub-t c = search needs
+points-requires : tie.Need-points-requires
+points-requires c κs =
+    let f : tie.After-form = search needs in
+    sym (f .form .ensures) ∙ c .if1 .left
 
-part-t-start : tie.Need-part-t-start
-part-t-start c = search needs
+add-end : tie.Need-add-end
+add-end c =
+    let f : tie.After-form = search needs in
+    let l : tie.Else1 = search needs in
+    let p : tie.After-points = search needs in
+    let h = points-fit _ (sym (f .form .ensures) ∙ l .if1 .left) _ (p .points .ensures) in
+    search needs
 
-part-t-end : tie.Need-part-t-end
-part-t-end c = search needs
+sub-check-key : tie.Need-sub-check-key
+sub-check-key c = search needs
 
-wrong-requires : tie.Need-wrong-requires
-wrong-requires c κs = search needs
+part-check-key-start : tie.Need-part-check-key-start
+part-check-key-start c = search needs
+
+part-check-key-end : tie.Need-part-check-key-end
+part-check-key-end c =
+    let f : tie.After-form = search needs in
+    let l : tie.Else1 = search needs in
+    let p : tie.After-points = search needs in
+    points-fit _ (sym (f .form .ensures) ∙ l .if1 .left) _ (p .points .ensures)
+
+check-key-requires : tie.Need-check-key-requires
+check-key-requires c κs = search needs
 
 returns-2 : tie.Need-returns-2
 returns-2 c =
     let s : tie.Start = search needs in
-    let f : tie.Else1 = search needs in
-    let b = s .args .bytes .now in
-    says-wrong b (f .if1 .left) (wrong-is b _ _ (c .before .wrong .ensures) (c .if2 .taken))
-
-number-requires : tie.Need-number-requires
-number-requires c κs = search needs
+    let f : tie.After-form = search needs in
+    let l : tie.Else1 = search needs in
+    let p : tie.After-points = search needs in
+    let k : tie.After-check-key = search needs in
+    key-refused (s .args .bytes .now) (sym (f .form .ensures) ∙ l .if1 .left) (p .points .result) (p .points .ensures) (k .check-key .result) (k .check-key .ensures) (c .if2 .taken)
 
 returns-3 : tie.Need-returns-3
 returns-3 c =
     let s : tie.Start = search needs in
-    let f : tie.Else1 = search needs in
-    let x : tie.After-wrong = search needs in
-    let y : tie.Else2 = search needs in
-    let b = s .args .bytes .now in
-    says-none b (f .if1 .left) (wrong-is b _ _ (x .wrong .ensures) (y .if2 .left)) (c .before .number .result) (c .before .number .ensures) (c .if3 .taken)
-
-returns-4 : tie.Need-returns-4
-returns-4 c =
-    let s : tie.Start = search needs in
-    let f : tie.Else1 = search needs in
-    let x : tie.After-wrong = search needs in
-    let y : tie.Else2 = search needs in
-    let b = s .args .bytes .now in
-    let z : tie.After-number = search needs in
-    says-many b (f .if1 .left) (wrong-is b _ _ (x .wrong .ensures) (y .if2 .left)) (z .number .result) (z .number .ensures) (c .before .if3 .left) (c .if4 .taken)
-
-returns-5 : tie.Need-returns-5
-returns-5 c =
-    let s : tie.Start = search needs in
-    let f : tie.Else1 = search needs in
-    let x : tie.After-wrong = search needs in
-    let y : tie.Else2 = search needs in
-    let b = s .args .bytes .now in
-    let z : tie.After-number = search needs in
-    says-reach b (f .if1 .left) (wrong-is b _ _ (x .wrong .ensures) (y .if2 .left)) (z .number .result) (z .number .ensures)
-    (c .before .before .if3 .left) (c .before .if4 .left) (c .if5 .taken)
-
-lettered-requires : tie.Need-lettered-requires
-lettered-requires c κs =
-    let s : tie.Start = search needs in
-    let f : tie.Else1 = search needs in
-    let x : tie.After-wrong = search needs in
-    let y : tie.Else2 = search needs in
-    let b = s .args .bytes .now in
-    let z : tie.After-number = search needs in
-    pointed b (f .if1 .left) (wrong-is b _ _ (x .wrong .ensures) (y .if2 .left)) (z .number .result) (z .number .ensures)
-    (c .before .before .if3 .left) (c .before .if4 .left) (c .if5 .left)
-
-returns-6 : tie.Need-returns-6
-returns-6 c = search needs
+    let f : tie.After-form = search needs in
+    let l : tie.Else1 = search needs in
+    let p : tie.After-points = search needs in
+    let k : tie.After-check-key = search needs in
+    key-found (s .args .bytes .now) (sym (f .form .ensures) ∙ l .if1 .left) (p .points .result) (p .points .ensures) (k .check-key .result) (k .check-key .ensures) (c .if2 .left)
 
 pub trailer-spec : {M : Type 1} → statement M
 trailer-spec =
     tie.close
     (tie.spec
+    form-requires
     returns
-    sub-t
-    part-t-start
-    part-t-end
-    wrong-requires
+    points-requires
+    add-end
+    sub-check-key
+    part-check-key-start
+    part-check-key-end
+    check-key-requires
     returns-2
-    number-requires
-    returns-3
-    returns-4
-    returns-5
-    lettered-requires
-    returns-6)
+    returns-3)

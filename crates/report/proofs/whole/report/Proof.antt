@@ -6,6 +6,7 @@ use native.Mathlib.Omega.{arith}
 use borrow.Author.Tests.{lt-ltb}
 use lib.ListN.{take}
 use lib.Seq.{length-take-le}
+use Rattle.report.proofs.Limits.{printable}
 use Rattle.report.proofs.Printed.{place-small, report-declined, report-accepted}
 use Rattle.ring.proofs.Verdicts.{number-permitted}
 use borrow.Author.Needs.{needs}
@@ -47,7 +48,7 @@ returns-2 c =
 
 put-lines-requires : tie.Need-put-lines-requires
 put-lines-requires c κs =
-    (number-permitted 1 _ false (sym (ap (λ x. x .number) (c .before .before .before .check .ensures)) ∙ c .before .if2 .left), search needs)
+    (printable _ (number-permitted 1 _ false (sym (ap (λ x. x .number) (c .before .before .before .check .ensures)) ∙ c .before .if2 .left)), search needs)
 
 same-length-2 : tie.Need-same-length-2
 same-length-2 c = search needs

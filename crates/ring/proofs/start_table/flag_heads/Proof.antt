@@ -10,6 +10,7 @@ use lib.Seq.{take-all}
 use Rattle.words.specs.Factor.{FirstRun}
 use Rattle.words.proofs.Factor.{run-within}
 use Rattle.words.proofs.StartTable.{Flagging, flagging-none, flagging-low, flagging-next, flagged-head, run-some}
+use Rattle.ring.specs.Judging.{most}
 use Rattle.ring.proofs.start_table.flag_heads.Statement.{statement}
 use Rattle.ring.proofs.start_table.flag_heads.Tie as tie
 
@@ -17,7 +18,7 @@ whole : (w : List ℕ) (m p e : ℕ) → FirstRun (take (length w - m) (drop m w
 whole w m p e r = rw (take-all (length w - m) (drop m w) (omega (arith, length-drop m w))) at r
 
 abbrev Inv-loop : tie.InvT-loop
-Inv-loop w t₀ facing m₀ t m = Flagging 8192 w t₀ t m
+Inv-loop w t₀ facing m₀ t m = Flagging most w t₀ t m
 
 abbrev μ-loop : tie.MeasureT-loop
 μ-loop w t₀ facing m₀ t m = length w - m
@@ -26,7 +27,7 @@ facing-table-requires : tie.Need-facing-table-requires Inv-loop μ-loop
 facing-table-requires c κs = search needs
 
 loop-holds : tie.Need-loop-holds Inv-loop μ-loop
-loop-holds c = flagging-none 8192 _ _
+loop-holds c = flagging-none most _ _
 
 mul-t : tie.Need-mul-t Inv-loop μ-loop
 mul-t c = search needs
@@ -35,7 +36,7 @@ slice-read-t : tie.Need-slice-read-t Inv-loop μ-loop
 slice-read-t c = search needs
 
 add-t : tie.Need-add-t Inv-loop μ-loop
-add-t c = let s = c .before .before .before .before .before .before .pre in omega (arith, flagging-low 8192 _ _ _ _ (s .2) (s .0) (search needs) (c .before .before .loop .inv))
+add-t c = let s = c .before .before .before .before .before .before .pre in omega (arith, flagging-low most _ _ _ _ (s .2) (s .0) (search needs) (c .before .before .loop .inv))
 
 mul-t-2 : tie.Need-mul-t-2 Inv-loop μ-loop
 mul-t-2 c = search needs
@@ -64,7 +65,7 @@ loop-less c = omega (arith, run-some _ _ _ (c .before .first-run .ensures))
 loop-again : tie.Need-loop-again Inv-loop μ-loop
 loop-again c =
     let s = c .before .before .before .before .before .before .before .before .before .before in
-    flagging-next 8192 _ _ _ _ (s .pre .2) (s .pre .0) (search needs) (c .before .before .before .before .before .before .loop .inv) (s .pre .1) _ _ (whole (s .args .w .now) _ _ _ (c .before .first-run .ensures))
+    flagging-next most _ _ _ _ (s .pre .2) (s .pre .0) (search needs) (c .before .before .before .before .before .before .loop .inv) (s .pre .1) _ _ (whole (s .args .w .now) _ _ _ (c .before .first-run .ensures))
 
 same-length : tie.Need-same-length Inv-loop μ-loop
 same-length c = search needs

@@ -21,8 +21,9 @@ slice-aggregate-put-table c = search needs
 
 put-table-requires : tie.Need-put-table-requires
 put-table-requires c κs =
-    let w = c .before .before .before .before .before .before .before .args .ring .now in
-    let p = c .before .before .before .before .before .before .before .pre .0 in
+    let s : tie.Start = search in
+    let w = s .args .ring .now in
+    let p = s .pre .0 in
     let n = told-factored w p _ longest (p .within) (c .before .before .before .factors .ensures .0) in
     (omega (arith, n, table-few w, p .within), omega (arith, n, table-few w, p .within), search needs)
 
@@ -32,10 +33,12 @@ same-length c = search needs
 returns : tie.Need-returns
 unfolding factorLine
 returns c =
-    let w = c .before .before .before .before .before .before .before .before .before .before .args .ring .now in
-    let p = c .before .before .before .before .before .before .before .before .before .before .pre .0 in
-    let n = told-factored w p _ longest (p .within) (c .before .before .before .before .before .before .factors .ensures .0) in
-    rw (told-table w p (replicate longest 0) _ (p .within) (factorTable w) _ n (c .before .before .before .before .before .before .factors .ensures .1)) at (c .before .before .put-table .ensures)
+    let s : tie.Start = search in
+    let filled : tie.After-factors = search in
+    let w = s .args .ring .now in
+    let p = s .pre .0 in
+    let n = told-factored w p _ longest (p .within) (filled .factors .ensures .0) in
+    rw (told-table w p (replicate longest 0) _ (p .within) (factorTable w) _ n (filled .factors .ensures .1)) at (c .before .before .put-table .ensures)
 
 pub put-factors-spec : {M : Type 1} → statement M
 put-factors-spec =

@@ -28,9 +28,11 @@ same-length c = search needs
 returns : tie.Need-returns
 unfolding startLine
 returns c =
-    let w = c .before .before .before .before .before .before .before .before .before .before .args .ring .now in
-    let p = c .before .before .before .before .before .before .before .before .before .before .pre .0 in
-    rw (told-table w p (replicate longest 0) _ (p .within) (startTable w) _ (sym (length-startTable w)) (c .before .before .before .before .before .before .starts .ensures .1)) at (c .before .before .put-table .ensures)
+    let s : tie.Start = search in
+    let filled : tie.After-starts = search in
+    let w = s .args .ring .now in
+    let p = s .pre .0 in
+    rw (told-table w p (replicate longest 0) _ (p .within) (startTable w) _ (sym (length-startTable w)) (filled .starts .ensures .1)) at (c .before .before .put-table .ensures)
 
 pub put-starts-spec : {M : Type 1} → statement M
 put-starts-spec =

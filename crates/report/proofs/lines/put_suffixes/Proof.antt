@@ -28,9 +28,11 @@ same-length c = search needs
 returns : tie.Need-returns
 unfolding suffixLine
 returns c =
-    let w = c .before .before .before .before .before .before .before .before .before .before .args .ring .now in
-    let p = c .before .before .before .before .before .before .before .before .before .before .pre .0 in
-    rw (told-table w p (replicate longest 0) _ (p .within) (suffixTable w) _ (sym (length-suffixTable w)) (c .before .before .before .before .before .before .suffixes .ensures .1)) at (c .before .before .put-table .ensures)
+    let s : tie.Start = search in
+    let filled : tie.After-suffixes = search in
+    let w = s .args .ring .now in
+    let p = s .pre .0 in
+    rw (told-table w p (replicate longest 0) _ (p .within) (suffixTable w) _ (sym (length-suffixTable w)) (filled .suffixes .ensures .1)) at (c .before .before .put-table .ensures)
 
 pub put-suffixes-spec : {M : Type 1} → statement M
 put-suffixes-spec =

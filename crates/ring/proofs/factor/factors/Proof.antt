@@ -38,7 +38,9 @@ same-length c = search needs
 
 returns-2 : tie.Need-returns-2
 returns-2 c =
-    let e = sym (c .before .before .before .before .before .before .judge .ensures) ∙ c .before .before .before .before .enum-told .given .1 in
+    let judged : tie.After-judge = search in
+    let told : tie.After-enum-told = search in
+    let e = sym (judged .judge .ensures) ∙ told .enum-told .given .1 in
     let f = taken-permitted _ _ _ e in
     let d = c .before .before .fill-factors .ensures in
     (factored-done _ _ e _ _ (d .0 .0) (d .0 .1 ∙ sym (route-is _ (f .0 .some))), rw e (d .1))

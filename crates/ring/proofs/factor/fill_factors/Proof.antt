@@ -51,11 +51,13 @@ add-count c = (let f = c .before .before .before .loop .inv .1 .few in let h = c
 
 best-of-requires : tie.Need-best-of-requires Inv-loop μ-loop
 best-of-requires c κs =
-    let k = c .before .before .before .before .loop .inv .1 in
+    let k = (let e : tie.At-loop Inv-loop μ-loop = search in e .loop .inv .1) in
     (search needs, omega (arith, routing-left _ _ _ _ _ _ _ _ _ _ k), best-below _ _ _ (search needs) (k .lowest))
 
 add-from : tie.Need-add-from Inv-loop μ-loop
-add-from c = omega (arith, routing-fits _ _ _ _ _ _ _ _ _ _ (c .before .before .before .before .before .loop .inv .1) _ _ _ (c .before .before .first-factor .ensures))
+add-from c =
+    let l : tie.At-loop Inv-loop μ-loop = search in
+    omega (arith, routing-fits _ _ _ _ _ _ _ _ _ _ (l .loop .inv .1) _ _ _ (c .before .before .first-factor .ensures))
 
 sub-rest : tie.Need-sub-rest Inv-loop μ-loop
 sub-rest c = omega (arith, factor-within _ _ _ _ (c .before .before .first-factor .ensures))
@@ -71,16 +73,18 @@ read-behind-requires c κs = omega (arith, factor-within _ _ _ _ (c .before .bef
 
 loop-less : tie.Need-loop-less Inv-loop μ-loop
 loop-less c =
-    let r = c .before .before .before .before .before .before .before .loop .rest .now in
-    let p = c .before .before .before .before .first-factor .result .size in
-    omega (arith, length-take-le (length r - p) (drop p r) (rw length-drop (omega arith)), length-drop p r, factor-within _ _ _ _ (c .before .before .before .before .first-factor .ensures))
+    let first : tie.After-first-factor Inv-loop μ-loop = search in
+    let r = (let e : tie.At-loop Inv-loop μ-loop = search in e .loop .rest .now) in
+    let p = first .first-factor .result .size in
+    omega (arith, length-take-le (length r - p) (drop p r) (rw length-drop (omega arith)), length-drop p r, factor-within _ _ _ _ (first .first-factor .ensures))
 
 loop-again : tie.Need-loop-again Inv-loop μ-loop
 loop-again c =
-    let k = c .before .before .before .before .before .before .before .loop .inv .1 in
-    let f = c .before .before .before .before .first-factor .ensures in
+    let l : tie.At-loop Inv-loop μ-loop = search in
+    let k = l .loop .inv .1 in
+    let f = (let e : tie.After-first-factor Inv-loop μ-loop = search in e .first-factor .ensures) in
     let b = rw (← c .before .before .best-of .ensures) at (routing-best _ _ _ _ _ _ _ _ _ _ k _ _ _ f (search needs)) in
-    (rw length-set (c .before .before .before .before .before .before .before .loop .inv .0), routing-next _ _ _ _ _ _ _ _ _ _ k _ _ _ f _ _ _ refl (search needs) (search needs) (c .read-behind .ensures) b)
+    (rw length-set (l .loop .inv .0), routing-next _ _ _ _ _ _ _ _ _ _ k _ _ _ f _ _ _ refl (search needs) (search needs) (c .read-behind .ensures) b)
 
 same-length : tie.Need-same-length Inv-loop μ-loop
 same-length c = search needs

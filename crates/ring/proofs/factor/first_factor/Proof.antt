@@ -52,12 +52,12 @@ loop-less c = search needs
 
 loop-again : tie.Need-loop-again Inv-loop μ-loop
 loop-again c =
-    let s = c .before .before .before .before .before .before .before .before .args in
-    let i = c .before .before .before .before .before .before .loop .inv in
+    let s = (let e : tie.Start Inv-loop μ-loop = search in e .args) in
+    let i = (let e : tie.At-loop Inv-loop μ-loop = search in e .loop .inv) in
     let o = i .1 .order in
     let n = i .0 in
-    let l = c .before .before .before .before .before .loop-test .taken in
-    let p = c .before .before .before .before .place .ensures .0 in
+    let l = (let e : tie.In-loop Inv-loop μ-loop = search in e .loop-test .taken) in
+    let p = (let e : tie.After-place Inv-loop μ-loop = search in e .place .ensures .0) in
     let q = c .before .before .place2 .ensures .0 in (
       n,
       either (c .if1 .came)

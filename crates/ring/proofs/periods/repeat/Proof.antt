@@ -40,13 +40,17 @@ slice-aggregate-first-period c = search needs
 
 first-period-requires : tie.Need-first-period-requires
 first-period-requires c κs =
-    let f = taken-permitted _ _ _ (sym (c .before .before .before .before .before .before .judge .ensures) ∙ c .before .before .before .before .enum-told .given .1) in
+    let judged : tie.After-judge = search in
+    let told : tie.After-enum-told = search in
+    let f = taken-permitted _ _ _ (sym (judged .judge .ensures) ∙ told .enum-told .given .1) in
     let m = c .before .before .match-lengths .ensures in
     (f .0 .some, f .0 .within, omega (arith, f .0 .within, m .1 .size), m .0)
 
 returns-2 : tie.Need-returns-2
 returns-2 c =
-    let e = sym (c .before .before .before .before .before .before .before .judge .ensures) ∙ c .before .before .before .before .before .enum-told .given .1 in
+    let judged : tie.After-judge = search in
+    let told : tie.After-enum-told = search in
+    let e = sym (judged .judge .ensures) ∙ told .enum-told .given .1 in
     repeated-done _ _ e _ (c .first-period .ensures)
 
 pub repeat-spec : {M : Type 1} → statement M

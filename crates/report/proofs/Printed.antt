@@ -26,14 +26,14 @@ use Rattle.report.proofs.Limits.{most-printed}
 
 module _ (w : List ℕ) (p : Printable w) where
   pub keyStart-small : keyStart 1 w < longest
-  keyStart-small = omega (arith, start-below 1 w (p .some), p .within)
+  keyStart-small = omega (arith, start-below 1 w (p .permitted .some), p .within)
 
   key-is : key 1 w ≡ reading (onStrand (strand 1 w) w) (keyStart 1 w)
   unfolding key keyStart lowest
   key-is = refl
 
   key-length : length (key 1 w) ≡ length w
-  key-length = length-key 1 w (p .some)
+  key-length = length-key 1 w (p .permitted .some)
 
   -- the two numbers stand in front, and the key is written behind them
   module _ (o t y : List ℕ) (at : ℕ) (l : Laid (row 32 (strand 1 w ∷ keyStart 1 w ∷ [])) o t) (n : at ≡ length (row 32 (strand 1 w ∷ keyStart 1 w ∷ []))) (f : at ≤ rowRoom 2) (h : keyRoom ≤ length o)

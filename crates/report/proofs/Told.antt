@@ -40,7 +40,7 @@ module _ (w : List ℕ) (p : Printable w) where
   alone = permitted-taken 1 w false (p .permitted) refl
 
   pub told-fought : (r : Fought) → r ≡ foughtOf 1 w → (r .start ≡ start w) × (r .pairs ≡ pairs w)
-  told-fought r e = rw (e, alone) (ap startOf (duels-end w (p .some)), refl)
+  told-fought r e = rw (e, alone) (ap startOf (duels-end w (p .permitted .some)), refl)
 
   pub told-repeated : (r : Repeated) → r ≡ repeatedOf 1 w → r .repeat ≡ repeat w
   told-repeated r e = rw (e, alone)
@@ -59,10 +59,10 @@ module _ (w : List ℕ) (p : Printable w) where
   -- ---- all of it is small
 
   pub start-small : start w < longest
-  start-small = omega (arith, start-is w (p .some) .within, p .within)
+  start-small = omega (arith, start-is w (p .permitted .some) .within, p .within)
 
   pub repeat-small : repeat w ≤ longest
-  repeat-small = omega (arith, repeat-is w (p .some) .repeats .within, p .within)
+  repeat-small = omega (arith, repeat-is w (p .permitted .some) .repeats .within, p .within)
 
   pub pairs-small : pairs w ≤ 3 * longest
   pairs-small = omega (arith, pairs-three w, p .within)

@@ -2,7 +2,7 @@
 -- Assumes nothing.
 use mathlib.Core.Bool.{false, cond}
 use mathlib.Core.List.{List, [], _∷_, _++_}
-use Prim.Native.Nat.{ℕ, _+_, _-_, _<_, _≤_}
+use Prim.Native.Nat.{ℕ, _+_, _-_, _≤_}
 use lib.Dec.{ltb, eqb}
 use lib.ListN.{length, take, getD}
 use Rattle.words.specs.Ring.{start}
@@ -22,7 +22,6 @@ longest = 8192
 -- a ring that is printed: a permitted base ring of `longest` letters or fewer
 pub record Printable (w : List ℕ) : Type 0 where
   pub permitted : Permitted 1 w
-  pub some : 0 < length w
   pub within : length w ≤ longest
 
 -- "if the last byte read is a line feed, that one is dropped"

@@ -63,7 +63,7 @@ loop-again : tie.Need-loop-again Inv-loop μ-loop
 loop-again c =
     let s : tie.Start Inv-loop μ-loop = search in
     let l = (let e : tie.At-loop Inv-loop μ-loop = search in e .loop) in
-    let e = c .before .before .before .put-number .ensures in
+    let e = (let e : tie.After-put-number Inv-loop μ-loop = search in e .put-number .ensures) in
     let w = (let e : tie.After-wide Inv-loop μ-loop = search in e .wide .ensures) in
     let b : Between (s .args .numbers .now) (s .args .end) (l .i) (c .if1 .room) = either (c .if1 .came) (λ w. rw (w .1) (last (omega (arith, w .0 .taken)))) (λ w. rw (w .1) (inner (omega (arith, w .0 .left)))) in
     let n = rowed-one _ _ _ _ _ _ (l .inv .1) (search needs) _ _ (rw w at (e .0 .0)) (e .0 .1) (search needs) (rw w at (e .1)) _ b in

@@ -18,7 +18,9 @@ returns-2 c = let x = c .before .before .args .x in (search needs, more-digits 1
 
 returns-3 : tie.Need-returns-3
 unfolding decimal
-returns-3 c = let x = c .before .before .before .args .x in (search needs, more-digits 19 2 x (omega arith) (more-digits 18 1 _ (omega arith) (one-digit 17 _ (omega arith))))
+returns-3 c =
+    let x = (let e : tie.Start = search in e .args .x) in
+    (search needs, more-digits 19 2 x (omega arith) (more-digits 18 1 _ (omega arith) (one-digit 17 _ (omega arith))))
 
 returns-4 : tie.Need-returns-4
 unfolding decimal

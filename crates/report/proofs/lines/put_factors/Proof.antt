@@ -21,10 +21,11 @@ slice-aggregate-put-table c = search needs
 
 put-table-requires : tie.Need-put-table-requires
 put-table-requires c κs =
+    let filled : tie.After-factors = search in
     let s : tie.Start = search in
     let w = s .args .ring .now in
     let p = s .pre .0 in
-    let n = told-factored w p _ longest (p .within) (c .before .before .before .factors .ensures .0) in
+    let n = told-factored w p _ longest (p .within) (filled .factors .ensures .0) in
     (omega (arith, n, table-few w, p .within), omega (arith, n, table-few w, p .within), search needs)
 
 same-length : tie.Need-same-length

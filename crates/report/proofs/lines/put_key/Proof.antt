@@ -18,7 +18,9 @@ cast-t9 : tie.Need-cast-t9
 cast-t9 c = search needs
 
 cast-t10 : tie.Need-cast-t10
-cast-t10 c = omega (arith, told-marked _ (c .before .before .before .pre .0) _ (c .mark .ensures) .0, keyStart-small _ (c .before .before .before .pre .0))
+cast-t10 c =
+    let s : tie.Start = search in
+    omega (arith, told-marked _ (s .pre .0) _ (c .mark .ensures) .0, keyStart-small _ (s .pre .0))
 
 slice-aggregate-put-row : tie.Need-slice-aggregate-put-row
 slice-aggregate-put-row c = search needs

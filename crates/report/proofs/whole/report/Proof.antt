@@ -54,7 +54,8 @@ returns-2 c =
 
 put-lines-requires : tie.Need-put-lines-requires
 put-lines-requires c κs =
-    (printable _ (number-permitted 1 _ false (sym (ap (λ x. x .number) (c .before .before .before .check .ensures)) ∙ c .before .if2 .left)), search needs)
+    let checked : tie.After-check = search in
+    (printable _ (number-permitted 1 _ false (sym (ap (λ x. x .number) (checked .check .ensures)) ∙ c .before .if2 .left)), search needs)
 
 same-length-2 : tie.Need-same-length-2
 same-length-2 c = search needs

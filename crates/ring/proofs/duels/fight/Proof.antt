@@ -25,22 +25,30 @@ Inv-duels s facing n p₀ q₀ c₀ p q c = Run s p q c
 abbrev μ-duels : tie.MeasureT-duels
 μ-duels s facing n p₀ q₀ c₀ p q c = n + n - (p + q)
 
--- the place behind the inner loop, and what is known there of `met`
-abbrev Scanned : Type 0
-Scanned = tie.Joined2 Inv-scan μ-scan Inv-duels μ-duels
+-- places in the code: its entry, the outer loop, behind the inner loop, and behind the call of `moved`
+abbrev Entered : Type 0
+Entered = tie.Start Inv-scan μ-scan Inv-duels μ-duels
 
 abbrev Duels : Type 0
 Duels = tie.At-duels Inv-scan μ-scan Inv-duels μ-duels
 
-abbrev Entered : Type 0
-Entered = tie.Start Inv-scan μ-scan Inv-duels μ-duels
+abbrev Scanned : Type 0
+Scanned = tie.Joined2 Inv-scan μ-scan Inv-duels μ-duels
 
+abbrev Stepped : Type 0
+Stepped = tie.After-moved Inv-scan μ-scan Inv-duels μ-duels
+
+-- the duel that an inner loop belongs to, the ring, and the inner loop that a call of `moved` comes after
 abbrev duels-of : tie.At-scan Inv-scan μ-scan Inv-duels μ-duels → Duels
 duels-of c = search
 
 abbrev ring-of : Duels → List ℕ
 ring-of d = (let s : Entered = search in s .args .ring .now)
 
+abbrev scanned-of : Stepped → Scanned
+scanned-of c = search
+
+-- behind the inner loop: what is known of `met`
 met-at : (c : Scanned) → Met (ring-of (duels-of (c .before))) (ring-of (duels-of (c .before))) (duels-of (c .before) .duels .p) (duels-of (c .before) .duels .q) (c .if2 .met)
 met-at c =
     let i = c .before .scan .inv in
@@ -76,8 +84,9 @@ scan-less c = search needs
 
 scan-again : tie.Need-scan-again Inv-scan μ-scan Inv-duels μ-duels
 scan-again c =
+    let letter : tie.After-letter Inv-scan μ-scan Inv-duels μ-duels = search in
     let k : tie.At-scan Inv-scan μ-scan Inv-duels μ-duels = search in
-    (search needs, below-more _ _ (k .scan .inv .1) (sym (c .before .before .before .letter .ensures) ∙ c .if3 .left ∙ c .before .letter2 .ensures))
+    (search needs, below-more _ _ (k .scan .inv .1) (sym (letter .letter .ensures) ∙ c .if3 .left ∙ c .before .letter2 .ensures))
 
 add-pairs : tie.Need-add-pairs Inv-scan μ-scan Inv-duels μ-duels
 add-pairs c = search needs
@@ -89,10 +98,14 @@ add-read-2 : tie.Need-add-read-2 Inv-scan μ-scan Inv-duels μ-duels
 add-read-2 c = omega (arith, met-at (c .before .before) .within)
 
 add-letter-3 : tie.Need-add-letter-3 Inv-scan μ-scan Inv-duels μ-duels
-add-letter-3 c = omega (arith, met-at (c .before .before .before) .within)
+add-letter-3 c =
+    let scanned : Scanned = search in
+    omega (arith, met-at scanned .within)
 
 letter-requires-3 : tie.Need-letter-requires-3 Inv-scan μ-scan Inv-duels μ-duels
-letter-requires-3 c κs = (search needs, omega (arith, met-at (c .before .before .before) .within, c .before .before .if4 .left))
+letter-requires-3 c κs =
+    let scanned : Scanned = search in
+    (search needs, omega (arith, met-at scanned .within, c .before .before .if4 .left))
 
 add-letter-4 : tie.Need-add-letter-4 Inv-scan μ-scan Inv-duels μ-duels
 add-letter-4 c =
@@ -110,13 +123,7 @@ moved-requires c κs =
     let scanned : Scanned = search in
     (omega arith, omega arith, omega (arith, met-at scanned .within))
 
--- the place behind the call of `moved`, and what the loop comes to there
-abbrev Stepped : Type 0
-Stepped = tie.After-moved Inv-scan μ-scan Inv-duels μ-duels
-
-abbrev scanned-of : Stepped → Scanned
-scanned-of c = search
-
+-- behind the call of `moved`: what the outer loop comes to
 abbrev Next : Stepped → Type 0
 Next c =
     let d = duels-of (scanned-of c .before) in
@@ -130,7 +137,9 @@ next-at c =
     let m = met-at (scanned-of c) in
     let on : tie.Else1 Inv-scan μ-scan Inv-duels μ-duels = search in
     let apart : tie.Else4 Inv-scan μ-scan Inv-duels μ-duels = search in
-    run-moved _ (s .pre .0) _ _ _ (d .duels .inv) (on .if1 .left) _ (omega (arith, m .within, apart .if4 .left)) m _ _ _ _ (c .before .before .before .letter3 .ensures) (c .before .letter4 .ensures) (c .moved .ensures)
+    let third : tie.After-letter3 Inv-scan μ-scan Inv-duels μ-duels = search in
+    run-moved _ (s .pre .0) _ _ _ (d .duels .inv) (on .if1 .left) _ (omega (arith, m .within, apart .if4 .left)) m _ _ _ _
+    (third .letter3 .ensures) (c .before .letter4 .ensures) (c .moved .ensures)
 
 duels-less : tie.Need-duels-less Inv-scan μ-scan Inv-duels μ-duels
 duels-less c = omega (arith, next-at c .1)
@@ -146,10 +155,11 @@ returns c =
 
 returns-2 : tie.Need-returns-2 Inv-scan μ-scan Inv-duels μ-duels
 returns-2 c =
+    let on : tie.Else1 Inv-scan μ-scan Inv-duels μ-duels = search in
     let s : Entered = search in
     let d : Duels = search in
     let m = met-at (c .before) in
-    let a = run-same _ (s .pre .0) _ _ _ (d .duels .inv) (c .before .before .before .if1 .left) (λ j h. m .agree j (omega (arith, c .if4 .taken))) in
+    let a = run-same _ (s .pre .0) _ _ _ (d .duels .inv) (on .if1 .left) (λ j h. m .agree j (omega (arith, c .if4 .taken))) in
     (sym (ap startOf (a .ended)), a .pairs)
 
 pub fight-spec : {M : Type 1} → statement M

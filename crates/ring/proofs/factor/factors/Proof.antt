@@ -24,13 +24,15 @@ place-of-requires c κs = search needs
 
 returns : tie.Need-returns
 returns c =
-    let e = c .before .before .before .judge .ensures in
-    let r = not-taken (c .before .before .before .judge .result) (c .before .before .match .keys2) in
+    let judged : tie.After-judge = search in
+    let e = judged .judge .ensures in
+    let r = not-taken (judged .judge .result) (c .before .before .match .keys2) in
     (factored-refused _ _ _ e r _ _ (c .before .number-of .ensures) (c .place-of .ensures), rw (← e, r))
 
 fill-factors-requires : tie.Need-fill-factors-requires
 fill-factors-requires c κs =
-    let f = taken-permitted _ _ _ (sym (c .before .before .before .judge .ensures) ∙ c .before .enum-told .given .1) in
+    let judged : tie.After-judge = search in
+    let f = taken-permitted _ _ _ (sym (judged .judge .ensures) ∙ c .before .enum-told .given .1) in
     (f .0 .some, f .0 .within, ltb-false _ _ (f .1))
 
 same-length : tie.Need-same-length

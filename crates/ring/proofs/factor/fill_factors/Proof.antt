@@ -31,7 +31,7 @@ first-factor-requires c κs = (search needs, c .before .before .loop .inv .1 .sc
 
 cast-table : tie.Need-cast-table Inv-loop μ-loop
 cast-table c =
-    let k = c .before .before .before .loop .inv .1 in
+    let k = (let e : tie.At-loop Inv-loop μ-loop = search in e .loop .inv .1) in
     let h = k .within in
     let b = best-below _ _ _ (search needs) (k .lowest) in
     search needs
@@ -41,13 +41,17 @@ mul-table c = search needs
 
 slice-write-table : tie.Need-slice-write-table Inv-loop μ-loop
 slice-write-table c =
-    let k = c .before .before .before .loop .inv .1 in
+    let k = (let e : tie.At-loop Inv-loop μ-loop = search in e .loop .inv .1) in
     let h = routing-left _ _ _ _ _ _ _ _ _ _ k in
     let f = k .few in
     search needs
 
 add-count : tie.Need-add-count Inv-loop μ-loop
-add-count c = (let f = c .before .before .before .loop .inv .1 .few in let h = c .before .before .before .loop .inv .1 .within in search needs)
+add-count c =
+    let l : tie.At-loop Inv-loop μ-loop = search in
+    let f = l .loop .inv .1 .few in
+    let h = l .loop .inv .1 .within in
+    search needs
 
 best-of-requires : tie.Need-best-of-requires Inv-loop μ-loop
 best-of-requires c κs =
@@ -69,7 +73,9 @@ part-rest-end : tie.Need-part-rest-end Inv-loop μ-loop
 part-rest-end c = (let h = factor-within _ _ _ _ (c .before .before .first-factor .ensures) in search needs)
 
 read-behind-requires : tie.Need-read-behind-requires Inv-loop μ-loop
-read-behind-requires c κs = omega (arith, factor-within _ _ _ _ (c .before .before .before .first-factor .ensures))
+read-behind-requires c κs =
+    let first : tie.After-first-factor Inv-loop μ-loop = search in
+    omega (arith, factor-within _ _ _ _ (first .first-factor .ensures))
 
 loop-less : tie.Need-loop-less Inv-loop μ-loop
 loop-less c =

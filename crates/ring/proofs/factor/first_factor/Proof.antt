@@ -30,7 +30,9 @@ shared-slice-read-a : tie.Need-shared-slice-read-a Inv-loop μ-loop
 shared-slice-read-a c = search needs
 
 place-requires-2 : tie.Need-place-requires-2 Inv-loop μ-loop
-place-requires-2 c κs = let o = c .before .before .before .loop .inv .1 .order in omega arith
+place-requires-2 c κs =
+    let o = (let e : tie.At-loop Inv-loop μ-loop = search in e .loop .inv .1 .order) in
+    omega arith
 
 shared-slice-read-b : tie.Need-shared-slice-read-b Inv-loop μ-loop
 shared-slice-read-b c = search needs
@@ -70,7 +72,7 @@ sub-t19 c = omega (arith, c .before .loop .inv .1 .order)
 
 returns : tie.Need-returns Inv-loop μ-loop
 returns c =
-    let s = c .before .before .before .args in
+    let s = (let e : tie.Start Inv-loop μ-loop = search in e .args) in
     let i = c .before .loop .inv in
     let o = i .1 .order in
     let n = i .0 in

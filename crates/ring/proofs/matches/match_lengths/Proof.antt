@@ -32,7 +32,9 @@ slice-read-lesser : tie.Need-slice-read-lesser Inv-loop μ-loop
 slice-read-lesser c = search needs
 
 cast-lesser : tie.Need-cast-lesser Inv-loop μ-loop
-cast-lesser c = omega (arith, c .slice-known2 .given (c .before .before .before .loop .k - c .before .before .before .loop .l))
+cast-lesser c =
+    let l : tie.At-loop Inv-loop μ-loop = search in
+    omega (arith, c .slice-known2 .given (l .loop .k - l .loop .l))
 
 sub-lesser-2 : tie.Need-sub-lesser-2 Inv-loop μ-loop
 sub-lesser-2 c = search needs

@@ -18,7 +18,9 @@ cast-t9 : tie.Need-cast-t9
 cast-t9 c = search needs
 
 cast-t10 : tie.Need-cast-t10
-cast-t10 c = omega (arith, told-marked _ (c .before .before .before .pre .0) _ (c .mark .ensures) .0, keyStart-small _ (c .before .before .before .pre .0))
+cast-t10 c =
+    let s : tie.Start = search in
+    omega (arith, told-marked _ (s .pre .0) _ (c .mark .ensures) .0, keyStart-small _ (s .pre .0))
 
 slice-aggregate-put-row : tie.Need-slice-aggregate-put-row
 slice-aggregate-put-row c = search needs
@@ -49,23 +51,29 @@ add-result c = search needs
 
 same-length : tie.Need-same-length
 same-length c =
-    let w = c .before .before .before .before .before .before .before .before .before .before .before .before .args .ring .now in
-    let p = c .before .before .before .before .before .before .before .before .before .before .before .before .pre .0 in
-    let o = c .before .before .before .before .before .before .before .before .before .before .before .before .args .room .now in
-    let m = told-marked w p _ (c .before .before .before .before .before .before .before .before .before .mark .ensures) in
-    let e = rw (m .0, m .1) at (c .before .before .before .before .before .before .put-row .ensures) in
-    let l : Laid (row 32 (strand 1 w ∷ keyStart 1 w ∷ [])) o (c .before .before .before .before .before .before .put-row .last .0) = record { is = e .1; fits = rw (← e .0 .0) (omega (arith, e .0 .1)) } in
+    let s : tie.Start = search in
+    let marked : tie.After-mark = search in
+    let numbers : tie.After-put-row = search in
+    let w = s .args .ring .now in
+    let p = s .pre .0 in
+    let o = s .args .room .now in
+    let m = told-marked w p _ (marked .mark .ensures) in
+    let e = rw (m .0, m .1) at (numbers .put-row .ensures) in
+    let l : Laid (row 32 (strand 1 w ∷ keyStart 1 w ∷ [])) o (numbers .put-row .last .0) = record { is = e .1; fits = rw (← e .0 .0) (omega (arith, e .0 .1)) } in
     let q = rw (m .0, m .1) at (c .before .before .write-reading .ensures .1) in
     line-size w p o _ _ _ l (e .0 .0) (e .0 .1) (search needs) q
 
 returns : tie.Need-returns
 returns c =
-    let w = c .before .before .before .before .before .before .before .before .before .before .before .before .args .ring .now in
-    let p = c .before .before .before .before .before .before .before .before .before .before .before .before .pre .0 in
-    let o = c .before .before .before .before .before .before .before .before .before .before .before .before .args .room .now in
-    let m = told-marked w p _ (c .before .before .before .before .before .before .before .before .before .mark .ensures) in
-    let e = rw (m .0, m .1) at (c .before .before .before .before .before .before .put-row .ensures) in
-    let l : Laid (row 32 (strand 1 w ∷ keyStart 1 w ∷ [])) o (c .before .before .before .before .before .before .put-row .last .0) = record { is = e .1; fits = rw (← e .0 .0) (omega (arith, e .0 .1)) } in
+    let s : tie.Start = search in
+    let marked : tie.After-mark = search in
+    let numbers : tie.After-put-row = search in
+    let w = s .args .ring .now in
+    let p = s .pre .0 in
+    let o = s .args .room .now in
+    let m = told-marked w p _ (marked .mark .ensures) in
+    let e = rw (m .0, m .1) at (numbers .put-row .ensures) in
+    let l : Laid (row 32 (strand 1 w ∷ keyStart 1 w ∷ [])) o (numbers .put-row .last .0) = record { is = e .1; fits = rw (← e .0 .0) (omega (arith, e .0 .1)) } in
     let q = rw (m .0, m .1) at (c .before .before .write-reading .ensures .1) in
     key-line w p o _ _ _ l (e .0 .0) (e .0 .1) (search needs) q
 

@@ -7,17 +7,14 @@ use Prim.Native.Nat.{ℕ, _≤_, _<_, _+_, _-_}
 use native.Mathlib.Omega.{arith}
 use borrow.Author.Tests.{eq-eqb, le-ltb}
 use borrow.Rule.Slice.PartMut.{putMid}
-use lib.ListN.{length, take, drop, set, length-append, length-drop}
-use lib.Seq.{length-take-le}
-use Rattle.words.specs.Ring.{reading, lowest}
-use Rattle.words.specs.Strand.{onStrand, strand, keyStart, key}
+use lib.ListN.{length, take, drop, set, length-append}
+use Rattle.words.specs.Strand.{strand, keyStart, key}
 use Rattle.ring.specs.Judging.{most, verdict, numberOf, placeOf, over, Given, unknown, none, many, letter, lacking, done}
-use Rattle.ring.specs.Answers.{wroteRoom}
 use Rattle.ring.proofs.Laid.{Laid, laid-one, laid-part, laid-size}
 use Rattle.ring.proofs.Exactly.{given}
 use Rattle.ring.proofs.Verdicts.{number-refused}
 use Rattle.ring.proofs.Compared.{length-key}
-use Rattle.ring.proofs.Deposit.{start-below}
+use Rattle.ring.proofs.Marks.{start-below}
 use Rattle.report.specs.Decimal.{row, rowRoom}
 use Rattle.report.specs.Report.{longest, keyRoom, roomy, Printable, kept, reportOn, reportOf, reportLength, reportRoom, headLine, factorLine, suffixLine, startLine, keyLine, fiveLines}
 use Rattle.report.proofs.Limits.{most-printed}
@@ -28,26 +25,17 @@ module _ (w : List ℕ) (p : Printable w) where
   pub keyStart-small : keyStart 1 w < longest
   keyStart-small = omega (arith, start-below 1 w (p .permitted .some), p .within)
 
-  key-is : key 1 w ≡ reading (onStrand (strand 1 w) w) (keyStart 1 w)
-  unfolding key keyStart lowest
-  key-is = refl
-
-  key-length : length (key 1 w) ≡ length w
+  pub key-length : length (key 1 w) ≡ length w
   key-length = length-key 1 w (p .permitted .some)
 
   -- the two numbers stand in front, and the key is written behind them
   module _ (o t y : List ℕ) (at : ℕ) (l : Laid (row 32 (strand 1 w ∷ keyStart 1 w ∷ [])) o t) (n : at ≡ length (row 32 (strand 1 w ∷ keyStart 1 w ∷ []))) (f : at ≤ rowRoom 2) (h : keyRoom ≤ length o)
-      (q : y ≡ wroteRoom w (strand 1 w) (keyStart 1 w) (take (length t - at) (drop at t))) where
+      (q : y ≡ over (key 1 w) (take (length t - at) (drop at t))) where
     room : length t ≡ length o
     room = laid-size _ o t l
 
-    part : length (take (length t - at) (drop at t)) ≡ length t - at
-    part = length-take-le (length t - at) (drop at t) (rw length-drop (omega arith))
-
     key-laid : Laid (row 32 (strand 1 w ∷ keyStart 1 w ∷ []) ++ key 1 w) o (putMid at (length t - at) t y)
-    key-laid =
-        let z : y ≡ over (key 1 w) (take (length t - at) (drop at t)) = q ∙ rw (le-ltb (length (take (length t - at) (drop at t))) (length w) (rw part (omega (arith, room, p .within))), ← key-is) in
-        laid-part _ (key 1 w) o t y at l (sym n) (omega (arith, room)) (rw key-length (omega (arith, room, p .within))) z
+    key-laid = laid-part _ (key 1 w) o t y at l (sym n) (omega (arith, room)) (rw key-length (omega (arith, room, p .within))) q
 
     key-size : length (row 32 (strand 1 w ∷ keyStart 1 w ∷ []) ++ key 1 w) ≡ at + length w
     key-size = length-append (row 32 (strand 1 w ∷ keyStart 1 w ∷ [])) (key 1 w) ∙ rw (← n, key-length)

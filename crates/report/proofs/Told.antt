@@ -24,7 +24,7 @@ use Rattle.ring.specs.declared.answer.Fought.{Fought}
 use Rattle.ring.specs.declared.answer.Repeated.{Repeated}
 use Rattle.ring.specs.declared.answer.Marked.{Marked}
 use Rattle.ring.specs.Judging.{verdict, over, after}
-use Rattle.ring.specs.Answers.{fewer, factoredOf, foughtOf, repeatedOf, markedOf}
+use Rattle.ring.specs.Answers.{fewer, factoredOf, foughtOf, repeatedOf, letteredOf}
 use Rattle.ring.proofs.Exactly.{permitted-taken, roomed}
 
 -- what was written to the front of a room
@@ -45,8 +45,8 @@ module _ (w : List ℕ) (p : Printable w) where
   pub told-repeated : (r : Repeated) → r ≡ repeatedOf 1 w → r .repeat ≡ repeat w
   told-repeated r e = rw (e, alone)
 
-  pub told-marked : (r : Marked) → r ≡ markedOf 1 w → (r .start ≡ keyStart 1 w) × (r .strand ≡ strand 1 w)
-  told-marked r e = rw (e, alone) (refl, refl)
+  pub told-lettered : (r : Marked) (size : ℕ) → length w ≤ size → r ≡ letteredOf 1 w size → (r .start ≡ keyStart 1 w) × (r .strand ≡ strand 1 w)
+  told-lettered r size h e = rw (e, roomed 1 w size (p .permitted) h) (refl, refl)
 
   pub told-factored : (r : Factored) (size : ℕ) → length w ≤ size → r ≡ factoredOf 1 w size → r .count ≡ length (factorTable w)
   told-factored r size h e = rw (e, roomed 1 w size (p .permitted) h)

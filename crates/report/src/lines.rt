@@ -66,19 +66,32 @@ fn put_starts(room: &mut [u8], ring: &[u8]) -> usize
     put_table(room, &table, ring.len())
 }
 
-// Line 5: the key's strand, its start, and the key, written straight from the ring.
+// Letters, copied to the front of a room.
+fn put_letters(room: &mut [u8], letters: &[u8])
+    requires { ⌜ length (now letters) ≤ length (now room) ⌝ }
+    ensures { λ _. ⌜ now (room .exit) ≡ over (now (letters .entry)) (now (room .entry)) ⌝ }
+{
+    let n = letters.len();
+    let mut i = 0;
+    while i < n {
+        room[i] = letters[i];
+        i += 1;
+    }
+}
+
+// Line 5: the key's strand, its start, and the key.
 fn put_key(room: &mut [u8], ring: &[u8]) -> usize
     requires { ⌜ Printable (now ring) × (keyRoom ≤ length (now room)) ⌝ }
     ensures { λ r. ⌜ (r ≡ length (keyLine (now (ring .entry)))) × (r ≤ keyRoom) ⌝ }
     ensures { λ _. ⌜ now (room .exit) ≡ over (keyLine (now (ring .entry))) (now (room .entry)) ⌝ }
 {
-    let marked = ring::mark(ring, 1);
-    let start = marked.start;
-    let strand = marked.strand;
-    let numbers = [strand as u16, start as u16];
+    let mut letters = [0u8; LONGEST];
+    let marked = ring::write_letters(ring, 1, &mut letters);
+    let numbers = [marked.strand as u16, marked.start as u16];
     let at = put_row(room, &numbers, 32);
-    ring::write_reading(ring, strand, start, &mut room[at..]);
-    let end = at + ring.len();
+    let n = ring.len();
+    put_letters(&mut room[at..], &letters[..n]);
+    let end = at + n;
     room[end] = 10;
     end + 1
 }

@@ -1,4 +1,5 @@
 -- The laws of the report, and its examples
+pub mod Limits
 pub mod Digits
 pub mod Rows
 pub mod Told

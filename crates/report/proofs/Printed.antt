@@ -7,46 +7,35 @@ use Prim.Native.Nat.{ℕ, _≤_, _<_, _+_, _-_}
 use native.Mathlib.Omega.{arith}
 use borrow.Author.Tests.{eq-eqb, le-ltb}
 use borrow.Rule.Slice.PartMut.{putMid}
-use lib.ListN.{length, take, drop, set, length-append, length-drop}
-use lib.Seq.{length-take-le}
-use Rattle.words.specs.Ring.{reading, lowest}
-use Rattle.words.specs.Strand.{onStrand, strand, keyStart, key}
-use Rattle.ring.specs.Judging.{Permitted, verdict, numberOf, placeOf, over, Given, unknown, none, many, letter, lacking, done}
-use Rattle.ring.specs.Answers.{wroteRoom}
+use lib.ListN.{length, take, drop, set, length-append}
+use Rattle.words.specs.Strand.{strand, keyStart, key}
+use Rattle.ring.specs.Judging.{most, verdict, numberOf, placeOf, over, Given, unknown, none, many, letter, lacking, done}
 use Rattle.ring.proofs.Laid.{Laid, laid-one, laid-part, laid-size}
 use Rattle.ring.proofs.Exactly.{given}
 use Rattle.ring.proofs.Verdicts.{number-refused}
 use Rattle.ring.proofs.Compared.{length-key}
-use Rattle.ring.proofs.Deposit.{start-below}
-use Rattle.report.specs.Decimal.{row}
-use Rattle.report.specs.Report.{kept, reportOn, reportOf, reportLength, reportRoom, headLine, factorLine, suffixLine, startLine, keyLine, fiveLines}
+use Rattle.ring.proofs.Marks.{start-below}
+use Rattle.report.specs.Decimal.{row, rowRoom}
+use Rattle.report.specs.Report.{longest, keyRoom, roomy, Printable, kept, reportOn, reportOf, reportLength, reportRoom, headLine, factorLine, suffixLine, startLine, keyLine, fiveLines}
+use Rattle.report.proofs.Limits.{most-printed}
 
 -- ---- the key
 
-module _ (w : List ℕ) (p : Permitted 1 w) where
-  pub keyStart-small : keyStart 1 w < 8192
-  keyStart-small = omega (arith, start-below 1 w (p .some), p .within)
+module _ (w : List ℕ) (p : Printable w) where
+  pub keyStart-small : keyStart 1 w < longest
+  keyStart-small = omega (arith, start-below 1 w (p .permitted .some), p .within)
 
-  key-is : key 1 w ≡ reading (onStrand (strand 1 w) w) (keyStart 1 w)
-  unfolding key keyStart lowest
-  key-is = refl
-
-  key-length : length (key 1 w) ≡ length w
-  key-length = length-key 1 w (p .some)
+  pub key-length : length (key 1 w) ≡ length w
+  key-length = length-key 1 w (p .permitted .some)
 
   -- the two numbers stand in front, and the key is written behind them
-  module _ (o t y : List ℕ) (at : ℕ) (l : Laid (row 32 (strand 1 w ∷ keyStart 1 w ∷ [])) o t) (n : at ≡ length (row 32 (strand 1 w ∷ keyStart 1 w ∷ []))) (f : at ≤ 12) (h : 8300 ≤ length o)
-      (q : y ≡ wroteRoom w (strand 1 w) (keyStart 1 w) (take (length t - at) (drop at t))) where
+  module _ (o t y : List ℕ) (at : ℕ) (l : Laid (row 32 (strand 1 w ∷ keyStart 1 w ∷ [])) o t) (n : at ≡ length (row 32 (strand 1 w ∷ keyStart 1 w ∷ []))) (f : at ≤ rowRoom 2) (h : keyRoom ≤ length o)
+      (q : y ≡ over (key 1 w) (take (length t - at) (drop at t))) where
     room : length t ≡ length o
     room = laid-size _ o t l
 
-    part : length (take (length t - at) (drop at t)) ≡ length t - at
-    part = length-take-le (length t - at) (drop at t) (rw length-drop (omega arith))
-
     key-laid : Laid (row 32 (strand 1 w ∷ keyStart 1 w ∷ []) ++ key 1 w) o (putMid at (length t - at) t y)
-    key-laid =
-        let z : y ≡ over (key 1 w) (take (length t - at) (drop at t)) = q ∙ rw (le-ltb (length (take (length t - at) (drop at t))) (length w) (rw part (omega (arith, room, p .within))), ← key-is) in
-        laid-part _ (key 1 w) o t y at l (sym n) (omega (arith, room)) (rw key-length (omega (arith, room, p .within))) z
+    key-laid = laid-part _ (key 1 w) o t y at l (sym n) (omega (arith, room)) (rw key-length (omega (arith, room, p .within))) q
 
     key-size : length (row 32 (strand 1 w ∷ keyStart 1 w ∷ []) ++ key 1 w) ≡ at + length w
     key-size = length-append (row 32 (strand 1 w ∷ keyStart 1 w ∷ [])) (key 1 w) ∙ rw (← n, key-length)
@@ -57,7 +46,7 @@ module _ (w : List ℕ) (p : Permitted 1 w) where
     pub line-size : length (set (putMid at (length t - at) t y) (at + length w) 10) ≡ length o
     line-size = laid-size _ o _ ended
 
-    pub key-line : ((at + length w + 1 ≡ length (keyLine w)) × (at + length w + 1 ≤ 8300)) × (set (putMid at (length t - at) t y) (at + length w) 10 ≡ over (keyLine w) o)
+    pub key-line : ((at + length w + 1 ≡ length (keyLine w)) × (at + length w + 1 ≤ keyRoom)) × (set (putMid at (length t - at) t y) (at + length w) 10 ≡ over (keyLine w) o)
     unfolding keyLine
     key-line =
         let r : List ℕ = row 32 (strand 1 w ∷ keyStart 1 w ∷ []) in
@@ -90,7 +79,7 @@ five w o t c l =
 
 -- ---- one line, where the ring is declined
 
-small-place : (kind : ℕ) (w : List ℕ) (Lacks : Type 0) {k i : ℕ} → Given kind w Lacks k i → i ≤ 8192
+small-place : (kind : ℕ) (w : List ℕ) (Lacks : Type 0) {k i : ℕ} → Given kind w Lacks k i → i ≤ most
 small-place kind w l (unknown k) = omega arith
 small-place kind w l (none k e) = omega arith
 small-place kind w l (many k m) = omega arith
@@ -98,16 +87,16 @@ small-place kind w l (letter k m i h b g) = omega arith
 small-place kind w l (lacking p t) = omega arith
 small-place kind w l (done p t) = omega arith
 
-pub place-small : (kind : ℕ) (w : List ℕ) (short : Bool) → placeOf (verdict kind w short) ≤ 8192
-place-small kind w short = small-place kind w (short ≡ true) (given kind w short)
+pub place-small : (kind : ℕ) (w : List ℕ) (short : Bool) → placeOf (verdict kind w short) ≤ longest
+place-small kind w short = omega (arith, small-place kind w (short ≡ true) (given kind w short), most-printed)
 
 -- ---- the report: n bytes are kept, and judged
 
-module _ (b o : List ℕ) (n : ℕ) (q : n ≡ kept b) (h : 160000 ≤ length o) where
+module _ (b o : List ℕ) (n : ℕ) (q : n ≡ kept b) (h : roomy ≤ length o) where
   whole : (x : List ℕ) → reportOn (take n b) ≡ x → (r : ℕ) (y : List ℕ) → r ≡ length x → y ≡ over x o → (r ≡ reportLength b (length o)) × (y ≡ reportRoom b o)
   whole x e r y l z =
       let f : reportOf b ≡ x = ap (λ m. reportOn (take m b)) (sym q) ∙ e in
-      (rw (le-ltb (length o) 160000 h, f) l, rw (le-ltb (length o) 160000 h, f) z)
+      (rw (le-ltb (length o) roomy h, f) l, rw (le-ltb (length o) roomy h, f) z)
 
   pub report-declined : (k p r : ℕ) (y : List ℕ) → k ≡ numberOf (verdict 1 (take n b) false) → p ≡ placeOf (verdict 1 (take n b) false) → (k ≡ 0 → ⊥)
       → r ≡ length (row 10 (k ∷ p ∷ [])) → y ≡ over (row 10 (k ∷ p ∷ [])) o → (r ≡ reportLength b (length o)) × (y ≡ reportRoom b o)

@@ -2,7 +2,7 @@
 -- Assumes nothing.
 use mathlib.Core.Path.{_≡_, refl, sym, ap, _∙_}
 use mathlib.Core.List.{List, [], _∷_, _++_, append-nil, append-assoc}
-use Prim.Native.Nat.{ℕ, suc, _≤_, _<_, _+_, _-_, _*_}
+use Prim.Native.Nat.{ℕ, suc, _≤_, _<_, _+_, _-_}
 use native.Mathlib.Omega.{arith}
 use native.Mathlib.Numerals.{add-one}
 use borrow.Rule.Slice.PartMut.{putMid}
@@ -10,7 +10,7 @@ use lib.ListN.{length, take, drop, set, getD, length-append, length-drop}
 use lib.Seq.{drop-cons, drop-length}
 use Rattle.ring.specs.Judging.{over}
 use Rattle.ring.proofs.Laid.{Laid, laid-none, laid-one, laid-part, laid-size}
-use Rattle.report.specs.Decimal.{decimal, row}
+use Rattle.report.specs.Decimal.{decimal, row, rowRoom}
 
 row-last : (end x : ℕ) (r : List ℕ) → r ≡ [] → row end (x ∷ r) ≡ decimal x ++ (end ∷ row end r)
 row-last end x r e = rw e
@@ -26,7 +26,7 @@ pub record Rowed (o t xs : List ℕ) (end at i : ℕ) : Type 0 where
   pub size : length written ≡ at
   pub same : row end xs ≡ written ++ row end (drop i xs)
   pub within : i ≤ length xs
-  pub few : at ≤ 6 * i
+  pub few : at ≤ rowRoom i
 
 pub rowed-none : (o xs : List ℕ) (end : ℕ) → Rowed o o xs end 0 0
 rowed-none o xs end = record { written = []; laid = laid-none o; size = refl; same = refl; within = omega arith; few = omega arith }
@@ -41,7 +41,7 @@ module _ (o t xs : List ℕ) (end at i : ℕ) (k : Rowed o t xs end at i) (h : i
   row-on b (last e) = ap (row end) (drop-cons xs i 0 h) ∙ row-last end (getD xs i 0) (drop (suc i) xs) (rw (e, drop-length))
   row-on b (inner l) = ap (row end) (drop-cons xs i 0 h) ∙ row-next end (getD xs i 0) (drop (suc i) xs) (rw length-drop (omega arith))
 
-  module _ (y : List ℕ) (c : ℕ) (e : c ≡ length (decimal (getD xs i 0))) (f : c ≤ 5) (m : 6 * length xs ≤ length o) (q : y ≡ over (decimal (getD xs i 0)) (take (length t - at) (drop at t))) where
+  module _ (y : List ℕ) (c : ℕ) (e : c ≡ length (decimal (getD xs i 0))) (f : c ≤ 5) (m : rowRoom (length xs) ≤ length o) (q : y ≡ over (decimal (getD xs i 0)) (take (length t - at) (drop at t))) where
     -- the number is written
     number-laid : Laid (k .written ++ decimal (getD xs i 0)) o (putMid at (length t - at) t y)
     number-laid = laid-part (k .written) (decimal (getD xs i 0)) o t y at (k .laid) (k .size) (omega (arith, laid-size _ o t (k .laid), k .few)) (omega (arith, laid-size _ o t (k .laid), k .few)) q

@@ -2,7 +2,7 @@
 -- Assumes nothing.
 use mathlib.Core.Bool.{cond}
 use mathlib.Core.List.{List, [], _∷_, _++_}
-use Prim.Native.Nat.{ℕ, zero, suc, _+_, _/_, _%_}
+use Prim.Native.Nat.{ℕ, zero, suc, _+_, _*_, _/_, _%_}
 use lib.Dec.{ltb}
 
 -- the byte of a digit
@@ -28,3 +28,7 @@ abbrev pub row : ℕ → List ℕ → List ℕ
 row end [] = []
 row end (x ∷ []) = decimal x ++ (end ∷ [])
 row end (x ∷ (y ∷ xs)) = decimal x ++ (32 ∷ row end (y ∷ xs))
+
+-- room for a line of k numbers below 100,000: five digits or fewer each, and a byte behind them
+abbrev pub rowRoom : ℕ → ℕ
+rowRoom k = 6 * k

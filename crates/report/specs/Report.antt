@@ -2,7 +2,7 @@
 -- Assumes nothing.
 use mathlib.Core.Bool.{false, cond}
 use mathlib.Core.List.{List, [], _∷_, _++_}
-use Prim.Native.Nat.{ℕ, _-_}
+use Prim.Native.Nat.{ℕ, _+_, _-_, _≤_}
 use lib.Dec.{ltb, eqb}
 use lib.ListN.{length, take, getD}
 use Rattle.words.specs.Ring.{start}
@@ -12,8 +12,17 @@ use Rattle.words.specs.Prefix.{suffixTable, startTable}
 use Rattle.words.specs.Repeat.{repeat}
 use Rattle.words.specs.Duel.{pairs}
 use Rattle.ring.specs.declared.judge.Verdict.{Verdict}
-use Rattle.ring.specs.Judging.{verdict, taken, numberOf, placeOf, over}
-use Rattle.report.specs.Decimal.{row}
+use Rattle.ring.specs.Judging.{Permitted, verdict, taken, numberOf, placeOf, over}
+use Rattle.report.specs.Decimal.{row, rowRoom}
+
+-- the most letters of a ring that is printed (01, "n from 1 to 8,192")
+abbrev pub longest : ℕ
+longest = 8192
+
+-- a ring that is printed: a permitted base ring of `longest` letters or fewer
+pub record Printable (w : List ℕ) : Type 0 where
+  pub permitted : Permitted 1 w
+  pub within : length w ≤ longest
 
 -- "if the last byte read is a line feed, that one is dropped"
 abbrev pub kept : List ℕ → ℕ
@@ -51,6 +60,13 @@ reportOn w = lines (verdict 1 w false) w
 -- the report on bytes read
 abbrev pub reportOf : List ℕ → List ℕ
 reportOf b = reportOn (take (kept b) b)
+
+-- room for a line that prints a table, and for the key's line: two numbers, the letters, a line feed
+abbrev pub tableRoom : ℕ
+tableRoom = rowRoom longest
+
+abbrev pub keyRoom : ℕ
+keyRoom = rowRoom 2 + longest + 1
 
 -- room enough for every report
 abbrev pub roomy : ℕ

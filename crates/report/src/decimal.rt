@@ -1,9 +1,10 @@
 // Numbers in decimal.
 ghost use mathlib.Core.Path.{_≡_};
-ghost use Prim.Native.Nat.{_*_, _<_, _≤_};
+ghost use Prim.Native.Nat.{_<_, _≤_};
 ghost use lib.ListN.{length};
 ghost use Rattle.ring.specs.Judging.{over};
-ghost use Rattle.report.specs.Decimal.{decimal, padded, row};
+ghost use Rattle.report.specs.Decimal.{decimal, padded, row, rowRoom};
+ghost use Rattle.report.specs.Report.{longest};
 
 // How many digits a number has.
 fn width(x: usize) -> usize
@@ -59,8 +60,8 @@ fn wide(x: u16) -> usize
 
 // Writes numbers with a space between and `end` behind the last to the front of a room, and answers how many bytes they take.
 pub fn put_row(room: &mut [u8], numbers: &[u16], end: u8) -> usize
-    requires { ⌜ (6 * length (now numbers) ≤ length (now room)) × (length (now numbers) ≤ 8192) ⌝ }
-    ensures { λ r. ⌜ (r ≡ length (row end (now (numbers .entry)))) × (r ≤ 6 * length (now (numbers .entry))) ⌝ }
+    requires { ⌜ (rowRoom (length (now numbers)) ≤ length (now room)) × (length (now numbers) ≤ longest) ⌝ }
+    ensures { λ r. ⌜ (r ≡ length (row end (now (numbers .entry)))) × (r ≤ rowRoom (length (now (numbers .entry)))) ⌝ }
     ensures { λ _. ⌜ now (room .exit) ≡ over (row end (now (numbers .entry))) (now (room .entry)) ⌝ }
 {
     let n = numbers.len();

@@ -2,15 +2,16 @@
 ghost use mathlib.Core.Path.{_≡_};
 ghost use Prim.Native.Nat.{_≤_};
 ghost use lib.ListN.{length, take};
-ghost use Rattle.ring.specs.Judging.{Permitted, over};
-ghost use Rattle.report.specs.Decimal.{row};
-ghost use Rattle.report.specs.Report.{headLine, factorLine, suffixLine, startLine, keyLine, fiveLines};
+ghost use Rattle.ring.specs.Judging.{over};
+ghost use Rattle.report.specs.Decimal.{row, rowRoom};
+ghost use Rattle.report.specs.Report.{longest, tableRoom, keyRoom, roomy, Printable, headLine, factorLine, suffixLine, startLine, keyLine, fiveLines};
 use super::decimal::put_row;
+use super::sizes::LONGEST;
 
 // Line 1: 0, n, the start, the repeat, the pairs.
 fn put_head(room: &mut [u8], ring: &[u8]) -> usize
-    requires { ⌜ Permitted 1 (now ring) × (30 ≤ length (now room)) ⌝ }
-    ensures { λ r. ⌜ (r ≡ length (headLine (now (ring .entry)))) × (r ≤ 30) ⌝ }
+    requires { ⌜ Printable (now ring) × (rowRoom 5 ≤ length (now room)) ⌝ }
+    ensures { λ r. ⌜ (r ≡ length (headLine (now (ring .entry)))) × (r ≤ rowRoom 5) ⌝ }
     ensures { λ _. ⌜ now (room .exit) ≡ over (headLine (now (ring .entry))) (now (room .entry)) ⌝ }
 {
     let fought = ring::duel(ring, 1);
@@ -25,8 +26,8 @@ fn put_head(room: &mut [u8], ring: &[u8]) -> usize
 
 // The first `n` entries of a table, as a line.
 fn put_table(room: &mut [u8], table: &[u16], n: usize) -> usize
-    requires { ⌜ (n ≤ length (now table)) × (n ≤ 8192) × (49152 ≤ length (now room)) ⌝ }
-    ensures { λ r. ⌜ (r ≡ length (row 10 (take n (now (table .entry))))) × (r ≤ 49152) ⌝ }
+    requires { ⌜ (n ≤ length (now table)) × (n ≤ longest) × (tableRoom ≤ length (now room)) ⌝ }
+    ensures { λ r. ⌜ (r ≡ length (row 10 (take n (now (table .entry))))) × (r ≤ tableRoom) ⌝ }
     ensures { λ _. ⌜ now (room .exit) ≡ over (row 10 (take n (now (table .entry)))) (now (room .entry)) ⌝ }
 {
     put_row(room, &table[..n], 10)
@@ -34,57 +35,70 @@ fn put_table(room: &mut [u8], table: &[u16], n: usize) -> usize
 
 // Line 2: the factor table.
 fn put_factors(room: &mut [u8], ring: &[u8]) -> usize
-    requires { ⌜ Permitted 1 (now ring) × (49152 ≤ length (now room)) ⌝ }
-    ensures { λ r. ⌜ (r ≡ length (factorLine (now (ring .entry)))) × (r ≤ 49152) ⌝ }
+    requires { ⌜ Printable (now ring) × (tableRoom ≤ length (now room)) ⌝ }
+    ensures { λ r. ⌜ (r ≡ length (factorLine (now (ring .entry)))) × (r ≤ tableRoom) ⌝ }
     ensures { λ _. ⌜ now (room .exit) ≡ over (factorLine (now (ring .entry))) (now (room .entry)) ⌝ }
 {
-    let mut table = [0u16; 8192];
+    let mut table = [0u16; LONGEST];
     let factored = ring::factors(ring, 1, &mut table);
     put_table(room, &table, factored.count)
 }
 
 // Line 3: the suffix table.
 fn put_suffixes(room: &mut [u8], ring: &[u8]) -> usize
-    requires { ⌜ Permitted 1 (now ring) × (49152 ≤ length (now room)) ⌝ }
-    ensures { λ r. ⌜ (r ≡ length (suffixLine (now (ring .entry)))) × (r ≤ 49152) ⌝ }
+    requires { ⌜ Printable (now ring) × (tableRoom ≤ length (now room)) ⌝ }
+    ensures { λ r. ⌜ (r ≡ length (suffixLine (now (ring .entry)))) × (r ≤ tableRoom) ⌝ }
     ensures { λ _. ⌜ now (room .exit) ≡ over (suffixLine (now (ring .entry))) (now (room .entry)) ⌝ }
 {
-    let mut table = [0u16; 8192];
+    let mut table = [0u16; LONGEST];
     ring::suffixes(ring, 1, &mut table);
     put_table(room, &table, ring.len())
 }
 
 // Line 4: the start table.
 fn put_starts(room: &mut [u8], ring: &[u8]) -> usize
-    requires { ⌜ Permitted 1 (now ring) × (49152 ≤ length (now room)) ⌝ }
-    ensures { λ r. ⌜ (r ≡ length (startLine (now (ring .entry)))) × (r ≤ 49152) ⌝ }
+    requires { ⌜ Printable (now ring) × (tableRoom ≤ length (now room)) ⌝ }
+    ensures { λ r. ⌜ (r ≡ length (startLine (now (ring .entry)))) × (r ≤ tableRoom) ⌝ }
     ensures { λ _. ⌜ now (room .exit) ≡ over (startLine (now (ring .entry))) (now (room .entry)) ⌝ }
 {
-    let mut table = [0u16; 8192];
+    let mut table = [0u16; LONGEST];
     ring::starts(ring, 1, &mut table);
     put_table(room, &table, ring.len())
 }
 
-// Line 5: the key's strand, its start, and the key, written straight from the ring.
+// Letters, copied to the front of a room.
+fn put_letters(room: &mut [u8], letters: &[u8])
+    requires { ⌜ length (now letters) ≤ length (now room) ⌝ }
+    ensures { λ _. ⌜ now (room .exit) ≡ over (now (letters .entry)) (now (room .entry)) ⌝ }
+{
+    let n = letters.len();
+    let mut i = 0;
+    while i < n {
+        room[i] = letters[i];
+        i += 1;
+    }
+}
+
+// Line 5: the key's strand, its start, and the key.
 fn put_key(room: &mut [u8], ring: &[u8]) -> usize
-    requires { ⌜ Permitted 1 (now ring) × (8300 ≤ length (now room)) ⌝ }
-    ensures { λ r. ⌜ (r ≡ length (keyLine (now (ring .entry)))) × (r ≤ 8300) ⌝ }
+    requires { ⌜ Printable (now ring) × (keyRoom ≤ length (now room)) ⌝ }
+    ensures { λ r. ⌜ (r ≡ length (keyLine (now (ring .entry)))) × (r ≤ keyRoom) ⌝ }
     ensures { λ _. ⌜ now (room .exit) ≡ over (keyLine (now (ring .entry))) (now (room .entry)) ⌝ }
 {
-    let marked = ring::mark(ring, 1);
-    let start = marked.start;
-    let strand = marked.strand;
-    let numbers = [strand as u16, start as u16];
+    let mut letters = [0u8; LONGEST];
+    let marked = ring::write_letters(ring, 1, &mut letters);
+    let numbers = [marked.strand as u16, marked.start as u16];
     let at = put_row(room, &numbers, 32);
-    ring::write_reading(ring, strand, start, &mut room[at..]);
-    let end = at + ring.len();
+    let n = ring.len();
+    put_letters(&mut room[at..], &letters[..n]);
+    let end = at + n;
     room[end] = 10;
     end + 1
 }
 
 // All five, one behind another.
 pub fn put_lines(room: &mut [u8], ring: &[u8]) -> usize
-    requires { ⌜ Permitted 1 (now ring) × (160000 ≤ length (now room)) ⌝ }
+    requires { ⌜ Printable (now ring) × (roomy ≤ length (now room)) ⌝ }
     ensures { λ r. ⌜ r ≡ length (fiveLines (now (ring .entry))) ⌝ }
     ensures { λ _. ⌜ now (room .exit) ≡ over (fiveLines (now (ring .entry))) (now (room .entry)) ⌝ }
 {

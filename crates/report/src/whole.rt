@@ -5,6 +5,7 @@ ghost use lib.ListN.{length};
 ghost use Rattle.report.specs.Report.{kept, reportLength, reportRoom};
 use super::decimal::put_row;
 use super::lines::put_lines;
+use super::sizes::ROOM;
 
 // How many bytes are left when one line feed at the end is dropped.
 fn kept_of(input: &[u8]) -> usize
@@ -25,7 +26,7 @@ pub fn report(input: &[u8], room: &mut [u8]) -> usize
     ensures { λ r. ⌜ r ≡ reportLength (now (input .entry)) (length (now (room .entry))) ⌝ }
     ensures { λ _. ⌜ now (room .exit) ≡ reportRoom (now (input .entry)) (now (room .entry)) ⌝ }
 {
-    if room.len() < 160000 {
+    if room.len() < ROOM {
         return 0;
     }
     let n = kept_of(input);

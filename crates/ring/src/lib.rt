@@ -25,6 +25,7 @@ pub use answer::Repeated;
 pub use comparison::compare;
 pub use duels::duel;
 pub use factor::factors;
+pub use judge::MOST;
 pub use judge::check;
 pub use judge::strands_of;
 pub use key_test::check_key;

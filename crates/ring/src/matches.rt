@@ -2,6 +2,7 @@
 ghost use Prim.Native.Nat.{_<_, _≤_};
 ghost use lib.ListN.{length};
 ghost use Rattle.words.specs.Match.{Match, MatchLength, MatchTable, Kept};
+ghost use Rattle.ring.specs.Judging.{most};
 
 // How far the letters from `k` on match the front, where `from` of them are known to.
 fn extend(w: &[u8], k: usize, from: usize) -> usize
@@ -28,7 +29,7 @@ fn lesser(a: usize, b: usize) -> usize
 // Writes the match length of each position; 0 for the front itself.
 // The letters from `l` to `r` match the front, so a position between them matches as one near the front does, up to `r`.
 pub fn match_lengths(w: &[u8], t: &mut [u16])
-    requires { ⌜ (0 < length (now w)) × (length (now w) ≤ 65536) × (length (now w) ≤ length (now t)) ⌝ }
+    requires { ⌜ (0 < length (now w)) × (length (now w) ≤ most) × (length (now w) ≤ length (now t)) ⌝ }
     ensures { λ _. ⌜ MatchTable (now (w .entry)) (now (t .exit)) × Kept (length (now (w .entry))) (now (t .entry)) (now (t .exit)) ⌝ }
 {
     t[0] = 0;

@@ -13,16 +13,17 @@ ghost use Rattle.ring.specs.Judging.{most};
 use super::answer::Checked;
 use super::facing::facing_table;
 use super::factor::first_run;
+use super::judge::MOST;
 use super::judge::Verdict;
 use super::judge::judge;
 use super::judge::said;
 use super::matches::match_lengths;
 
 // A head's entry has this added; no match length and no start reaches it.
-const HEAD: u16 = 8192;
+const HEAD: u16 = MOST as u16;
 
 // An entry has this added where the start is the block's head; no flagged entry reaches it.
-const MARK: u16 = 16384;
+const MARK: u16 = HEAD + HEAD;
 
 // Flags the heads.
 fn flag_heads(w: &[u8], t: &mut [u16])

@@ -10,9 +10,9 @@ fn print(room: &[u8], size: usize) {
 }
 
 fn main() {
-    let mut input = [0u8; 8194];
+    let mut input = [0u8; report::READ];
     let n = io::read_full(STDIN_FILENO, &mut input);
-    let mut room = [0u8; 160000];
+    let mut room = [0u8; report::ROOM];
     let size = report::report(&input[..n], &mut room);
     print(&room, size);
 }

@@ -8,9 +8,6 @@ ghost use Rattle.sheet.specs.Trailer.{wrongMarks, formOf, pointsIn, foun
 use super::answer::Found;
 use super::answer::Points;
 
-// The most letters that a ring has, `most` of the ring rules: crate `ring` lends out no constant of it, so it is named here too.
-const MOST: usize = 8192;
-
 // How many values a byte has, and how many bytes a number of a trailer.
 const BASE: usize = 256;
 
@@ -90,7 +87,7 @@ pub fn form(bytes: &[u8]) -> u8
     if n == 0 {
         return 1;
     }
-    if MOST < n {
+    if ring::MOST < n {
         return 2;
     }
     if at < n {

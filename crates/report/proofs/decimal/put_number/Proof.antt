@@ -18,7 +18,7 @@ same-length c = search needs
 
 returns : tie.Need-returns
 returns c =
-    let w = c .before .before .before .before .width .ensures in
+    let w = (let e : tie.After-width = search in e .width .ensures) in
     ((sym (ap length (w .1) ∙ length-padded _ _), w .0), rw (w .1) (c .before .before .put-digits .ensures))
 
 pub put-number-spec : {M : Type 1} → statement M

@@ -11,10 +11,6 @@ use Rattle.ring.proofs.Laid.{laid-size}
 use Rattle.report.proofs.Rows.{Rowed, rowed-none, rowed-one, rowed-all, Between, last, inner}
 use Rattle.report.proofs.decimal.put_row.Statement.{statement}
 use Rattle.report.proofs.decimal.put_row.Tie as tie
-use Rattle.report.proofs.decimal.put_row.Reads as reads
-use Rattle.report.proofs.decimal.put_row.Lts as lts
-use Rattle.report.proofs.decimal.put_number.Reads as put-number-reads
-use Rattle.report.proofs.decimal.wide.Reads as wide-reads
 
 abbrev Inv-loop : tie.InvT-loop
 Inv-loop room₀ numbers end n at₀ i₀ room at i = (length room ≡ length room₀) × Rowed room₀ room numbers end at i
@@ -45,7 +41,7 @@ wide-requires c κs = search needs
 
 put-number-requires : tie.Need-put-number-requires Inv-loop μ-loop
 put-number-requires c κs =
-    let l = c .before .before .before .before .loop in
+    let l = (let e : tie.At-loop Inv-loop μ-loop = search in e .loop) in
     (omega (arith, c .wide .ensures, c .before .shared-slice-known2 .given (l .i)), rw (length-take-le (length (l .room) - l .at) (drop (l .at) (l .room)) (rw length-drop (omega arith))) (omega arith))
 
 add-at : tie.Need-add-at Inv-loop μ-loop
@@ -65,10 +61,11 @@ loop-less c = search needs
 
 loop-again : tie.Need-loop-again Inv-loop μ-loop
 loop-again c =
-    let l = c .before .before .before .before .before .before .before .before .loop in
-    let e = c .before .before .before .put-number .ensures in
-    let w = c .before .before .before .before .wide .ensures in
-    let b : Between (c .before .before .before .before .before .before .before .before .before .before .before .args .numbers .now) (c .before .before .before .before .before .before .before .before .before .before .before .args .end) (l .i) (c .if1 .room) = either (c .if1 .came) (λ w. rw (w .1) (last (omega (arith, w .0 .taken)))) (λ w. rw (w .1) (inner (omega (arith, w .0 .left)))) in
+    let s : tie.Start Inv-loop μ-loop = search in
+    let l = (let e : tie.At-loop Inv-loop μ-loop = search in e .loop) in
+    let e = (let e : tie.After-put-number Inv-loop μ-loop = search in e .put-number .ensures) in
+    let w = (let e : tie.After-wide Inv-loop μ-loop = search in e .wide .ensures) in
+    let b : Between (s .args .numbers .now) (s .args .end) (l .i) (c .if1 .room) = either (c .if1 .came) (λ w. rw (w .1) (last (omega (arith, w .0 .taken)))) (λ w. rw (w .1) (inner (omega (arith, w .0 .left)))) in
     let n = rowed-one _ _ _ _ _ _ (l .inv .1) (search needs) _ _ (rw w at (e .0 .0)) (e .0 .1) (search needs) (rw w at (e .1)) _ b in
     (laid-size _ _ _ (n .laid), n)
 

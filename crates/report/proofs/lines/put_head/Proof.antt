@@ -18,13 +18,20 @@ cast-n : tie.Need-cast-n
 cast-n c = search needs
 
 cast-start : tie.Need-cast-start
-cast-start c = omega (arith, told-fought _ (c .before .before .before .before .before .pre .0) _ (c .before .before .duel .ensures) .0, start-small _ (c .before .before .before .before .before .pre .0))
+cast-start c =
+    let s : tie.Start = search in
+    omega (arith, told-fought _ (s .pre .0) _ (c .before .before .duel .ensures) .0, start-small _ (s .pre .0))
 
 cast-repeat : tie.Need-cast-repeat
-cast-repeat c = omega (arith, told-repeated _ (c .before .before .before .before .before .before .pre .0) _ (c .before .before .repeat .ensures), repeat-small _ (c .before .before .before .before .before .before .pre .0))
+cast-repeat c =
+    let s : tie.Start = search in
+    omega (arith, told-repeated _ (s .pre .0) _ (c .before .before .repeat .ensures), repeat-small _ (s .pre .0))
 
 cast-pairs : tie.Need-cast-pairs
-cast-pairs c = omega (arith, told-fought _ (c .before .before .before .before .before .before .before .pre .0) _ (c .before .before .before .before .duel .ensures) .1, pairs-small _ (c .before .before .before .before .before .before .before .pre .0))
+cast-pairs c =
+    let s : tie.Start = search in
+    let fought : tie.After-duel = search in
+    omega (arith, told-fought _ (s .pre .0) _ (fought .duel .ensures) .1, pairs-small _ (s .pre .0))
 
 slice-aggregate-put-row : tie.Need-slice-aggregate-put-row
 slice-aggregate-put-row c = search needs
@@ -38,10 +45,13 @@ same-length c = search needs
 returns : tie.Need-returns
 unfolding headLine
 returns c =
-    let w = c .before .before .before .before .before .before .before .before .before .before .before .before .args .ring .now in
-    let p = c .before .before .before .before .before .before .before .before .before .before .before .before .pre .0 in
-    let f = told-fought w p _ (c .before .before .before .before .before .before .before .before .before .duel .ensures) in
-    let r = told-repeated w p _ (c .before .before .before .before .before .before .before .before .repeat .ensures) in
+    let s : tie.Start = search in
+    let fought : tie.After-duel = search in
+    let repeated : tie.After-repeat = search in
+    let w = s .args .ring .now in
+    let p = s .pre .0 in
+    let f = told-fought w p _ (fought .duel .ensures) in
+    let r = told-repeated w p _ (repeated .repeat .ensures) in
     let e = c .before .before .put-row .ensures in
     ((rw (← f .0, ← f .1, ← r) (e .0 .0), omega (arith, e .0 .1)), rw (← f .0, ← f .1, ← r) (e .1))
 

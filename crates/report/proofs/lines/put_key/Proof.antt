@@ -1,24 +1,34 @@
 -- `report::lines::put_key` meets its contract.
 -- Assumes nothing.
+use mathlib.Core.Path.{sym}
 use mathlib.Core.List.{[], _∷_}
 use native.Mathlib.Omega.{arith}
-use Rattle.words.specs.Strand.{strand, keyStart}
+use lib.ListN.{length, replicate, length-take, length-drop}
+use Rattle.words.specs.Strand.{strand, keyStart, key}
 use Rattle.ring.proofs.Laid.{Laid}
 use Rattle.report.specs.Decimal.{row}
-use Rattle.report.proofs.Told.{told-marked}
-use Rattle.report.proofs.Printed.{keyStart-small, line-size, key-line}
+use Rattle.report.specs.Report.{longest}
+use Rattle.report.proofs.Told.{told-lettered, told-table}
+use Rattle.report.proofs.Printed.{keyStart-small, key-length, line-size, key-line}
 use borrow.Author.Needs.{needs}
 use Rattle.report.proofs.lines.put_key.Statement.{statement}
 use Rattle.report.proofs.lines.put_key.Tie as tie
 
-mark-requires : tie.Need-mark-requires
-mark-requires c κs = search needs
+slice-aggregate-write-letters : tie.Need-slice-aggregate-write-letters
+slice-aggregate-write-letters c = search needs
 
-cast-t9 : tie.Need-cast-t9
-cast-t9 c = search needs
+write-letters-requires : tie.Need-write-letters-requires
+write-letters-requires c κs = search needs
 
-cast-t10 : tie.Need-cast-t10
-cast-t10 c = omega (arith, told-marked _ (c .before .before .before .pre .0) _ (c .mark .ensures) .0, keyStart-small _ (c .before .before .before .pre .0))
+cast-t11 : tie.Need-cast-t11
+cast-t11 c = search needs
+
+cast-t12 : tie.Need-cast-t12
+cast-t12 c =
+    let s : tie.Start = search in
+    let written : tie.After-write-letters = search in
+    let p = s .pre .0 in
+    omega (arith, told-lettered _ p _ longest (p .within) (written .write-letters .ensures .0) .0, keyStart-small _ p)
 
 slice-aggregate-put-row : tie.Need-slice-aggregate-put-row
 slice-aggregate-put-row c = search needs
@@ -26,17 +36,31 @@ slice-aggregate-put-row c = search needs
 put-row-requires : tie.Need-put-row-requires
 put-row-requires c κs = search needs
 
-sub-write-reading : tie.Need-sub-write-reading
-sub-write-reading c = search needs
+sub-put-letters : tie.Need-sub-put-letters
+sub-put-letters c = search needs
 
-part-write-reading-start : tie.Need-part-write-reading-start
-part-write-reading-start c = search needs
+part-put-letters-start : tie.Need-part-put-letters-start
+part-put-letters-start c = search needs
 
-part-write-reading-end : tie.Need-part-write-reading-end
-part-write-reading-end c = search needs
+part-put-letters-end : tie.Need-part-put-letters-end
+part-put-letters-end c = search needs
 
-write-reading-requires : tie.Need-write-reading-requires
-write-reading-requires c κs = search needs
+array-share-prefix-letters : tie.Need-array-share-prefix-letters
+array-share-prefix-letters c = search needs
+
+slice-aggregate-put-letters : tie.Need-slice-aggregate-put-letters
+slice-aggregate-put-letters c =
+    let s : tie.Start = search in
+    let p = s .pre .0 in
+    let h = p .within in
+    simp length-take (search needs)
+
+put-letters-requires : tie.Need-put-letters-requires
+put-letters-requires c κs =
+    let s : tie.Start = search in
+    let numbers : tie.After-put-row = search in
+    let h = s .pre .0 .within in
+    simp (length-take, length-drop) (omega (arith, s .pre .1, numbers .put-row .ensures .0 .1))
 
 add-end : tie.Need-add-end
 add-end c = search needs
@@ -49,39 +73,52 @@ add-result c = search needs
 
 same-length : tie.Need-same-length
 same-length c =
-    let w = c .before .before .before .before .before .before .before .before .before .before .before .before .args .ring .now in
-    let p = c .before .before .before .before .before .before .before .before .before .before .before .before .pre .0 in
-    let o = c .before .before .before .before .before .before .before .before .before .before .before .before .args .room .now in
-    let m = told-marked w p _ (c .before .before .before .before .before .before .before .before .before .mark .ensures) in
-    let e = rw (m .0, m .1) at (c .before .before .before .before .before .before .put-row .ensures) in
-    let l : Laid (row 32 (strand 1 w ∷ keyStart 1 w ∷ [])) o (c .before .before .before .before .before .before .put-row .last .0) = record { is = e .1; fits = rw (← e .0 .0) (omega (arith, e .0 .1)) } in
-    let q = rw (m .0, m .1) at (c .before .before .write-reading .ensures .1) in
-    line-size w p o _ _ _ l (e .0 .0) (e .0 .1) (search needs) q
+    let s : tie.Start = search in
+    let written : tie.After-write-letters = search in
+    let numbers : tie.After-put-row = search in
+    let copied : tie.After-put-letters = search in
+    let w = s .args .ring .now in
+    let p = s .pre .0 in
+    let o = s .args .room .now in
+    let m = told-lettered w p _ longest (p .within) (written .write-letters .ensures .0) in
+    let e = rw (m .0, m .1) at (numbers .put-row .ensures) in
+    let l : Laid (row 32 (strand 1 w ∷ keyStart 1 w ∷ [])) o (numbers .put-row .last .0) = record { is = e .1; fits = rw (← e .0 .0) (omega (arith, e .0 .1)) } in
+    let k = told-table w p (replicate longest 0) _ (p .within) (key 1 w) (length w) (sym (key-length w p)) (written .write-letters .ensures .1) in
+    let q = rw k at (copied .put-letters .ensures) in
+    line-size w p o _ _ _ l (e .0 .0) (e .0 .1) (s .pre .1) q
 
 returns : tie.Need-returns
 returns c =
-    let w = c .before .before .before .before .before .before .before .before .before .before .before .before .args .ring .now in
-    let p = c .before .before .before .before .before .before .before .before .before .before .before .before .pre .0 in
-    let o = c .before .before .before .before .before .before .before .before .before .before .before .before .args .room .now in
-    let m = told-marked w p _ (c .before .before .before .before .before .before .before .before .before .mark .ensures) in
-    let e = rw (m .0, m .1) at (c .before .before .before .before .before .before .put-row .ensures) in
-    let l : Laid (row 32 (strand 1 w ∷ keyStart 1 w ∷ [])) o (c .before .before .before .before .before .before .put-row .last .0) = record { is = e .1; fits = rw (← e .0 .0) (omega (arith, e .0 .1)) } in
-    let q = rw (m .0, m .1) at (c .before .before .write-reading .ensures .1) in
-    key-line w p o _ _ _ l (e .0 .0) (e .0 .1) (search needs) q
+    let s : tie.Start = search in
+    let written : tie.After-write-letters = search in
+    let numbers : tie.After-put-row = search in
+    let copied : tie.After-put-letters = search in
+    let w = s .args .ring .now in
+    let p = s .pre .0 in
+    let o = s .args .room .now in
+    let m = told-lettered w p _ longest (p .within) (written .write-letters .ensures .0) in
+    let e = rw (m .0, m .1) at (numbers .put-row .ensures) in
+    let l : Laid (row 32 (strand 1 w ∷ keyStart 1 w ∷ [])) o (numbers .put-row .last .0) = record { is = e .1; fits = rw (← e .0 .0) (omega (arith, e .0 .1)) } in
+    let k = told-table w p (replicate longest 0) _ (p .within) (key 1 w) (length w) (sym (key-length w p)) (written .write-letters .ensures .1) in
+    let q = rw k at (copied .put-letters .ensures) in
+    key-line w p o _ _ _ l (e .0 .0) (e .0 .1) (s .pre .1) q
 
 pub put-key-spec : {M : Type 1} → statement M
 put-key-spec =
     tie.close
     (tie.spec
-    mark-requires
-    cast-t9
-    cast-t10
+    slice-aggregate-write-letters
+    write-letters-requires
+    cast-t11
+    cast-t12
     slice-aggregate-put-row
     put-row-requires
-    sub-write-reading
-    part-write-reading-start
-    part-write-reading-end
-    write-reading-requires
+    sub-put-letters
+    part-put-letters-start
+    part-put-letters-end
+    array-share-prefix-letters
+    slice-aggregate-put-letters
+    put-letters-requires
     add-end
     slice-write-room
     add-result

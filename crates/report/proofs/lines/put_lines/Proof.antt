@@ -76,13 +76,13 @@ same-length c = search needs
 
 returns : tie.Need-returns
 returns c =
-    let h = c .before .before .before .before .before .before .before .before .before .before .before .before .before .before .before .before .before .before .put-head .ensures in
-    let f = c .before .before .before .before .before .before .before .before .before .before .before .before .before .before .put-factors .ensures in
-    let s = c .before .before .before .before .before .before .before .before .before .before .put-suffixes .ensures in
-    let t = c .before .before .before .before .before .before .put-starts .ensures in
-    let k = c .before .before .put-key .ensures in
-    let o = c .before .before .before .before .before .before .before .before .before .before .before .before .before .before .before .before .before .before .before .before .before .before .args .room .now in
-    let w = c .before .before .before .before .before .before .before .before .before .before .before .before .before .before .before .before .before .before .before .before .before .before .args .ring .now in
+    let o = (let e : tie.Start = search in e .args .room .now) in
+    let w = (let e : tie.Start = search in e .args .ring .now) in
+    let h = (let e : tie.After-put-head = search in e .put-head .ensures) in
+    let f = (let e : tie.After-put-factors = search in e .put-factors .ensures) in
+    let s = (let e : tie.After-put-suffixes = search in e .put-suffixes .ensures) in
+    let t = (let e : tie.After-put-starts = search in e .put-starts .ensures) in
+    let k = (let e : tie.After-put-key = search in e .put-key .ensures) in
     let a = lined-first (headLine w) o _ _ (h .0 .0) (omega (arith, h .0 .1)) (h .1) in
     let b = lined-next (headLine w) (factorLine w) o _ _ _ _ a (f .0 .0) (omega (arith, h .0 .1, f .0 .1)) (f .1) in
     let d = lined-next (headLine w ++ factorLine w) (suffixLine w) o _ _ _ _ b (s .0 .0) (omega (arith, h .0 .1, f .0 .1, s .0 .1)) (s .1) in

@@ -4,7 +4,7 @@ use mathlib.Core.Path.{sym}
 use lib.ListN.{replicate}
 use Rattle.words.specs.Prefix.{startTable}
 use Rattle.words.proofs.Prefix.{length-startTable}
-use Rattle.report.specs.Report.{startLine}
+use Rattle.report.specs.Report.{longest, startLine}
 use Rattle.report.proofs.Told.{told-table}
 use borrow.Author.Needs.{needs}
 use Rattle.report.proofs.lines.put_starts.Statement.{statement}
@@ -28,9 +28,11 @@ same-length c = search needs
 returns : tie.Need-returns
 unfolding startLine
 returns c =
-    let w = c .before .before .before .before .before .before .before .before .before .before .args .ring .now in
-    let p = c .before .before .before .before .before .before .before .before .before .before .pre .0 in
-    rw (told-table w p (replicate 8192 0) _ (p .within) (startTable w) _ (sym (length-startTable w)) (c .before .before .before .before .before .before .starts .ensures .1)) at (c .before .before .put-table .ensures)
+    let s : tie.Start = search in
+    let filled : tie.After-starts = search in
+    let w = s .args .ring .now in
+    let p = s .pre .0 in
+    rw (told-table w p (replicate longest 0) _ (p .within) (startTable w) _ (sym (length-startTable w)) (filled .starts .ensures .1)) at (c .before .before .put-table .ensures)
 
 pub put-starts-spec : {M : Type 1} → statement M
 put-starts-spec =

@@ -5,6 +5,7 @@ use Prim.Native.Nat.{_≤_}
 use native.Mathlib.Omega.{arith}
 use lib.ListN.{length, take}
 use lib.Seq.{length-take-le}
+use Rattle.report.specs.Report.{longest}
 use borrow.Author.Needs.{needs}
 use Rattle.report.proofs.lines.put_table.Statement.{statement}
 use Rattle.report.proofs.lines.put_table.Tie as tie
@@ -14,8 +15,9 @@ slice-aggregate-put-row c = sym (length-take-le _ _ (search needs))
 
 put-row-requires : tie.Need-put-row-requires
 put-row-requires c κs =
-    let n = c .before .before .before .before .args .n in
-    let t = c .before .before .before .before .args .table .now in
+    let s : tie.Start = search in
+    let n = s .args .n in
+    let t = s .args .table .now in
     let l : length (take n t) ≡ n = length-take-le n t (search needs) in
     (rw l (search needs), rw l (search needs))
 
@@ -24,10 +26,11 @@ same-length c = search needs
 
 returns : tie.Need-returns
 returns c =
-    let n = c .before .before .before .before .before .before .before .args .n in
-    let t = c .before .before .before .before .before .before .before .args .table .now in
+    let s : tie.Start = search in
+    let n = s .args .n in
+    let t = s .args .table .now in
     let l : length (take n t) ≡ n = length-take-le n t (search needs) in
-    let h : n ≤ 8192 = search needs in
+    let h : n ≤ longest = search needs in
     let e = c .before .before .put-row .ensures in
     ((e .0 .0, omega (arith, e .0 .1, l, h)), e .1)
 

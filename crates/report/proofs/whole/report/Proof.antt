@@ -6,6 +6,7 @@ use native.Mathlib.Omega.{arith}
 use borrow.Author.Tests.{lt-ltb}
 use lib.ListN.{take}
 use lib.Seq.{length-take-le}
+use Rattle.report.proofs.Limits.{printable}
 use Rattle.report.proofs.Printed.{place-small, report-declined, report-accepted}
 use Rattle.ring.proofs.Verdicts.{number-permitted}
 use borrow.Author.Needs.{needs}
@@ -28,7 +29,11 @@ cast-t10 : tie.Need-cast-t10
 cast-t10 c = search needs
 
 cast-t11 : tie.Need-cast-t11
-cast-t11 c = omega (arith, ap (λ x. x .place) (c .before .before .before .before .check .ensures), place-small 1 (take (c .before .before .before .before .before .before .kept-of .result) (c .before .before .before .before .before .before .before .before .before .before .args .input .now)) false)
+cast-t11 c =
+    let s : tie.Start = search in
+    let kept : tie.After-kept-of = search in
+    let checked : tie.After-check = search in
+    omega (arith, ap (λ x. x .place) (checked .check .ensures), place-small 1 (take (kept .kept-of .result) (s .args .input .now)) false)
 
 slice-aggregate-put-row : tie.Need-slice-aggregate-put-row
 slice-aggregate-put-row c = search needs
@@ -41,22 +46,27 @@ same-length c = search needs
 
 returns-2 : tie.Need-returns-2
 returns-2 c =
+    let kept : tie.After-kept-of = search in
+    let declined : tie.Then2 = search in
     let e = c .before .before .put-row .ensures in
-    let k = c .before .before .before .before .before .before .before .before .before .check .ensures in
-    report-declined _ _ _ (c .before .before .before .before .before .before .before .before .before .before .before .kept-of .ensures .0) (search needs) _ _ _ _ (ap (λ x. x .number) k) (ap (λ x. x .place) k) (c .before .before .before .before .before .before .before .if2 .taken) (e .0 .0) (e .1)
+    let k = (let e : tie.After-check = search in e .check .ensures) in
+    report-declined _ _ _ (kept .kept-of .ensures .0) (search needs) _ _ _ _ (ap (λ x. x .number) k) (ap (λ x. x .place) k) (declined .if2 .taken) (e .0 .0) (e .1)
 
 put-lines-requires : tie.Need-put-lines-requires
 put-lines-requires c κs =
-    (number-permitted 1 _ false (sym (ap (λ x. x .number) (c .before .before .before .check .ensures)) ∙ c .before .if2 .left), search needs)
+    let checked : tie.After-check = search in
+    (printable _ (number-permitted 1 _ false (sym (ap (λ x. x .number) (checked .check .ensures)) ∙ c .before .if2 .left)), search needs)
 
 same-length-2 : tie.Need-same-length-2
 same-length-2 c = search needs
 
 returns-3 : tie.Need-returns-3
 returns-3 c =
+    let kept : tie.After-kept-of = search in
+    let taken : tie.Else2 = search in
     let e = c .before .before .put-lines .ensures in
-    let k = c .before .before .before .before .before .before .check .ensures in
-    report-accepted _ _ _ (c .before .before .before .before .before .before .before .before .kept-of .ensures .0) (search needs) _ _ (sym (ap (λ x. x .number) k) ∙ c .before .before .before .before .if2 .left) (e .0) (e .1)
+    let k = (let e : tie.After-check = search in e .check .ensures) in
+    report-accepted _ _ _ (kept .kept-of .ensures .0) (search needs) _ _ (sym (ap (λ x. x .number) k) ∙ taken .if2 .left) (e .0) (e .1)
 
 pub report-spec : {M : Type 1} → statement M
 report-spec =

@@ -22,8 +22,9 @@ place-of-requires c κs = search needs
 
 returns : tie.Need-returns
 returns c =
-    let e = c .before .before .before .judge .ensures in
-    let r = not-taken (c .before .before .before .judge .result) (c .before .before .match .keys2) in
+    let judged : tie.After-judge = search in
+    let e = judged .judge .ensures in
+    let r = not-taken (judged .judge .result) (c .before .before .match .keys2) in
     fought-refused _ _ _ e r _ _ (c .before .number-of .ensures) (c .place-of .ensures)
 
 fight-requires : tie.Need-fight-requires
@@ -33,7 +34,8 @@ fight-requires c κs =
 
 returns-2 : tie.Need-returns-2
 returns-2 c =
-    let e = sym (c .before .before .before .judge .ensures) ∙ c .before .enum-told .given .1 in
+    let judged : tie.After-judge = search in
+    let e = sym (judged .judge .ensures) ∙ c .before .enum-told .given .1 in
     fought-done _ _ e _ _ (c .fight .ensures .0) (c .fight .ensures .1)
 
 pub duel-spec : {M : Type 1} → statement M

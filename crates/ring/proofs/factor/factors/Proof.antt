@@ -24,13 +24,15 @@ place-of-requires c κs = search needs
 
 returns : tie.Need-returns
 returns c =
-    let e = c .before .before .before .judge .ensures in
-    let r = not-taken (c .before .before .before .judge .result) (c .before .before .match .keys2) in
+    let judged : tie.After-judge = search in
+    let e = judged .judge .ensures in
+    let r = not-taken (judged .judge .result) (c .before .before .match .keys2) in
     (factored-refused _ _ _ e r _ _ (c .before .number-of .ensures) (c .place-of .ensures), rw (← e, r))
 
 fill-factors-requires : tie.Need-fill-factors-requires
 fill-factors-requires c κs =
-    let f = taken-permitted _ _ _ (sym (c .before .before .before .judge .ensures) ∙ c .before .enum-told .given .1) in
+    let judged : tie.After-judge = search in
+    let f = taken-permitted _ _ _ (sym (judged .judge .ensures) ∙ c .before .enum-told .given .1) in
     (f .0 .some, f .0 .within, ltb-false _ _ (f .1))
 
 same-length : tie.Need-same-length
@@ -38,7 +40,9 @@ same-length c = search needs
 
 returns-2 : tie.Need-returns-2
 returns-2 c =
-    let e = sym (c .before .before .before .before .before .before .judge .ensures) ∙ c .before .before .before .before .enum-told .given .1 in
+    let judged : tie.After-judge = search in
+    let told : tie.After-enum-told = search in
+    let e = sym (judged .judge .ensures) ∙ told .enum-told .given .1 in
     let f = taken-permitted _ _ _ e in
     let d = c .before .before .fill-factors .ensures in
     (factored-done _ _ e _ _ (d .0 .0) (d .0 .1 ∙ sym (route-is _ (f .0 .some))), rw e (d .1))

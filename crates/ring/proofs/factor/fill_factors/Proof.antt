@@ -31,7 +31,7 @@ first-factor-requires c κs = (search needs, c .before .before .loop .inv .1 .sc
 
 cast-table : tie.Need-cast-table Inv-loop μ-loop
 cast-table c =
-    let k = c .before .before .before .loop .inv .1 in
+    let k = (let e : tie.At-loop Inv-loop μ-loop = search in e .loop .inv .1) in
     let h = k .within in
     let b = best-below _ _ _ (search needs) (k .lowest) in
     search needs
@@ -41,21 +41,27 @@ mul-table c = search needs
 
 slice-write-table : tie.Need-slice-write-table Inv-loop μ-loop
 slice-write-table c =
-    let k = c .before .before .before .loop .inv .1 in
+    let k = (let e : tie.At-loop Inv-loop μ-loop = search in e .loop .inv .1) in
     let h = routing-left _ _ _ _ _ _ _ _ _ _ k in
     let f = k .few in
     search needs
 
 add-count : tie.Need-add-count Inv-loop μ-loop
-add-count c = (let f = c .before .before .before .loop .inv .1 .few in let h = c .before .before .before .loop .inv .1 .within in search needs)
+add-count c =
+    let l : tie.At-loop Inv-loop μ-loop = search in
+    let f = l .loop .inv .1 .few in
+    let h = l .loop .inv .1 .within in
+    search needs
 
 best-of-requires : tie.Need-best-of-requires Inv-loop μ-loop
 best-of-requires c κs =
-    let k = c .before .before .before .before .loop .inv .1 in
+    let k = (let e : tie.At-loop Inv-loop μ-loop = search in e .loop .inv .1) in
     (search needs, omega (arith, routing-left _ _ _ _ _ _ _ _ _ _ k), best-below _ _ _ (search needs) (k .lowest))
 
 add-from : tie.Need-add-from Inv-loop μ-loop
-add-from c = omega (arith, routing-fits _ _ _ _ _ _ _ _ _ _ (c .before .before .before .before .before .loop .inv .1) _ _ _ (c .before .before .first-factor .ensures))
+add-from c =
+    let l : tie.At-loop Inv-loop μ-loop = search in
+    omega (arith, routing-fits _ _ _ _ _ _ _ _ _ _ (l .loop .inv .1) _ _ _ (c .before .before .first-factor .ensures))
 
 sub-rest : tie.Need-sub-rest Inv-loop μ-loop
 sub-rest c = omega (arith, factor-within _ _ _ _ (c .before .before .first-factor .ensures))
@@ -67,20 +73,24 @@ part-rest-end : tie.Need-part-rest-end Inv-loop μ-loop
 part-rest-end c = (let h = factor-within _ _ _ _ (c .before .before .first-factor .ensures) in search needs)
 
 read-behind-requires : tie.Need-read-behind-requires Inv-loop μ-loop
-read-behind-requires c κs = omega (arith, factor-within _ _ _ _ (c .before .before .before .first-factor .ensures))
+read-behind-requires c κs =
+    let first : tie.After-first-factor Inv-loop μ-loop = search in
+    omega (arith, factor-within _ _ _ _ (first .first-factor .ensures))
 
 loop-less : tie.Need-loop-less Inv-loop μ-loop
 loop-less c =
-    let r = c .before .before .before .before .before .before .before .loop .rest .now in
-    let p = c .before .before .before .before .first-factor .result .size in
-    omega (arith, length-take-le (length r - p) (drop p r) (rw length-drop (omega arith)), length-drop p r, factor-within _ _ _ _ (c .before .before .before .before .first-factor .ensures))
+    let first : tie.After-first-factor Inv-loop μ-loop = search in
+    let r = (let e : tie.At-loop Inv-loop μ-loop = search in e .loop .rest .now) in
+    let p = first .first-factor .result .size in
+    omega (arith, length-take-le (length r - p) (drop p r) (rw length-drop (omega arith)), length-drop p r, factor-within _ _ _ _ (first .first-factor .ensures))
 
 loop-again : tie.Need-loop-again Inv-loop μ-loop
 loop-again c =
-    let k = c .before .before .before .before .before .before .before .loop .inv .1 in
-    let f = c .before .before .before .before .first-factor .ensures in
+    let l : tie.At-loop Inv-loop μ-loop = search in
+    let k = l .loop .inv .1 in
+    let f = (let e : tie.After-first-factor Inv-loop μ-loop = search in e .first-factor .ensures) in
     let b = rw (← c .before .before .best-of .ensures) at (routing-best _ _ _ _ _ _ _ _ _ _ k _ _ _ f (search needs)) in
-    (rw length-set (c .before .before .before .before .before .before .before .loop .inv .0), routing-next _ _ _ _ _ _ _ _ _ _ k _ _ _ f _ _ _ refl (search needs) (search needs) (c .read-behind .ensures) b)
+    (rw length-set (l .loop .inv .0), routing-next _ _ _ _ _ _ _ _ _ _ k _ _ _ f _ _ _ refl (search needs) (search needs) (c .read-behind .ensures) b)
 
 same-length : tie.Need-same-length Inv-loop μ-loop
 same-length c = search needs

@@ -30,7 +30,9 @@ shared-slice-read-a : tie.Need-shared-slice-read-a Inv-loop μ-loop
 shared-slice-read-a c = search needs
 
 place-requires-2 : tie.Need-place-requires-2 Inv-loop μ-loop
-place-requires-2 c κs = let o = c .before .before .before .loop .inv .1 .order in omega arith
+place-requires-2 c κs =
+    let o = (let e : tie.At-loop Inv-loop μ-loop = search in e .loop .inv .1 .order) in
+    omega arith
 
 shared-slice-read-b : tie.Need-shared-slice-read-b Inv-loop μ-loop
 shared-slice-read-b c = search needs
@@ -52,12 +54,12 @@ loop-less c = search needs
 
 loop-again : tie.Need-loop-again Inv-loop μ-loop
 loop-again c =
-    let s = c .before .before .before .before .before .before .before .before .args in
-    let i = c .before .before .before .before .before .before .loop .inv in
+    let s = (let e : tie.Start Inv-loop μ-loop = search in e .args) in
+    let i = (let e : tie.At-loop Inv-loop μ-loop = search in e .loop .inv) in
     let o = i .1 .order in
     let n = i .0 in
-    let l = c .before .before .before .before .before .loop-test .taken in
-    let p = c .before .before .before .before .place .ensures .0 in
+    let l = (let e : tie.In-loop Inv-loop μ-loop = search in e .loop-test .taken) in
+    let p = (let e : tie.After-place Inv-loop μ-loop = search in e .place .ensures .0) in
     let q = c .before .before .place2 .ensures .0 in (
       n,
       either (c .if1 .came)
@@ -70,7 +72,7 @@ sub-t19 c = omega (arith, c .before .loop .inv .1 .order)
 
 returns : tie.Need-returns Inv-loop μ-loop
 returns c =
-    let s = c .before .before .before .args in
+    let s = (let e : tie.Start Inv-loop μ-loop = search in e .args) in
     let i = c .before .loop .inv in
     let o = i .1 .order in
     let n = i .0 in

@@ -37,7 +37,9 @@ loop-less : tie.Need-loop-less Inv-loop μ-loop
 loop-less c = search needs
 
 loop-again : tie.Need-loop-again Inv-loop μ-loop
-loop-again c = match-more _ _ _ (c .before .before .before .before .loop .inv) (search needs) (c .if1 .left)
+loop-again c =
+    let l : tie.At-loop Inv-loop μ-loop = search in
+    match-more _ _ _ (l .loop .inv) (search needs) (c .if1 .left)
 
 returns : tie.Need-returns Inv-loop μ-loop
 returns c = record { match = c .before .loop .inv; differs = λ l e. omega arith }

@@ -32,7 +32,9 @@ slice-read-lesser : tie.Need-slice-read-lesser Inv-loop μ-loop
 slice-read-lesser c = search needs
 
 cast-lesser : tie.Need-cast-lesser Inv-loop μ-loop
-cast-lesser c = omega (arith, c .slice-known2 .given (c .before .before .before .loop .k - c .before .before .before .loop .l))
+cast-lesser c =
+    let l : tie.At-loop Inv-loop μ-loop = search in
+    omega (arith, c .slice-known2 .given (l .loop .k - l .loop .l))
 
 sub-lesser-2 : tie.Need-sub-lesser-2 Inv-loop μ-loop
 sub-lesser-2 c = search needs
@@ -42,9 +44,10 @@ lesser-requires c κs = search needs
 
 extend-requires : tie.Need-extend-requires Inv-loop μ-loop
 extend-requires c κs =
+    let s : tie.Start Inv-loop μ-loop = search in
     let g = c .before .before .loop .inv in
     either (c .if1 .came) (λ x. rw (x .3) (box-guess _ _ _ _ _ _ g (search needs) _ (x .0 .taken) (x .2 .ensures .0) (x .2 .ensures .1)))
-    (λ x. rw (x .1) (match-none (c .before .before .before .before .before .args .w .now) _ (search needs)))
+    (λ x. rw (x .1) (match-none (s .args .w .now) _ (search needs)))
 
 cast-t : tie.Need-cast-t Inv-loop μ-loop
 cast-t c = omega (arith, c .extend .ensures .match .within)
@@ -69,7 +72,7 @@ loop-less c = search needs
 
 loop-again : tie.Need-loop-again Inv-loop μ-loop
 loop-again c =
-    let g = c .before .before .before .before .loop .inv in
+    let g = (let e : tie.At-loop Inv-loop μ-loop = search in e .loop .inv) in
     let z = c .before .extend .ensures in
     either (c .if2 .came) (λ x. rw (x .1, x .2) (box-new _ _ _ _ _ _ g (search needs) _ z)) (λ x. rw (x .1, x .2) (box-old _ _ _ _ _ _ g (search needs) _ z))
 

@@ -31,7 +31,10 @@ sub-if1 : tie.Need-sub-if1 Inv-loop μ-loop
 sub-if1 c = search needs
 
 returns : tie.Need-returns Inv-loop μ-loop
-returns c = sought-found _ _ (c .before .before .before .before .loop .inv .1) _ (c .before .before .before .before .before .before .before .pre .3 .found _ (search needs) (search needs)) (omega (arith, c .before .wide .ensures, c .if1 .taken))
+returns c =
+    let s : tie.Start Inv-loop μ-loop = search in
+    let l : tie.At-loop Inv-loop μ-loop = search in
+    sought-found _ _ (l .loop .inv .1) _ (s .pre .3 .found _ (search needs) (search needs)) (omega (arith, c .before .wide .ensures, c .if1 .taken))
 
 add-p : tie.Need-add-p Inv-loop μ-loop
 add-p c = search needs
@@ -40,7 +43,10 @@ loop-less : tie.Need-loop-less Inv-loop μ-loop
 loop-less c = search needs
 
 loop-again : tie.Need-loop-again Inv-loop μ-loop
-loop-again c = (search needs, sought-next _ _ (c .before .before .before .before .loop .inv .1) _ (c .before .before .before .before .before .before .before .pre .3 .found _ (search needs) (search needs)) (search needs) (λ e. c .if1 .left (omega (arith, c .before .wide .ensures))))
+loop-again c =
+    let s : tie.Start Inv-loop μ-loop = search in
+    let l : tie.At-loop Inv-loop μ-loop = search in
+    (search needs, sought-next _ _ (l .loop .inv .1) _ (s .pre .3 .found _ (search needs) (search needs)) (search needs) (λ e. c .if1 .left (omega (arith, c .before .wide .ensures))))
 
 returns-2 : tie.Need-returns-2 Inv-loop μ-loop
 returns-2 c =

@@ -23,8 +23,9 @@ place-of-requires c κs = search needs
 
 returns : tie.Need-returns
 returns c =
-    let e = c .before .before .before .judge .ensures in
-    let r = not-taken (c .before .before .before .judge .result) (c .before .before .match .keys2) in
+    let judged : tie.After-judge = search in
+    let e = judged .judge .ensures in
+    let r = not-taken (judged .judge .result) (c .before .before .match .keys2) in
     repeated-refused _ _ _ e r _ _ (c .before .number-of .ensures) (c .place-of .ensures)
 
 slice-aggregate-match-lengths : tie.Need-slice-aggregate-match-lengths
@@ -32,7 +33,8 @@ slice-aggregate-match-lengths c = search needs
 
 match-lengths-requires : tie.Need-match-lengths-requires
 match-lengths-requires c κs =
-    let f = taken-permitted _ _ _ (sym (c .before .before .before .judge .ensures) ∙ c .before .enum-told .given .1) in
+    let judged : tie.After-judge = search in
+    let f = taken-permitted _ _ _ (sym (judged .judge .ensures) ∙ c .before .enum-told .given .1) in
     (f .0 .some, omega (arith, f .0 .within), f .0 .within)
 
 slice-aggregate-first-period : tie.Need-slice-aggregate-first-period
@@ -40,13 +42,17 @@ slice-aggregate-first-period c = search needs
 
 first-period-requires : tie.Need-first-period-requires
 first-period-requires c κs =
-    let f = taken-permitted _ _ _ (sym (c .before .before .before .before .before .before .judge .ensures) ∙ c .before .before .before .before .enum-told .given .1) in
+    let judged : tie.After-judge = search in
+    let told : tie.After-enum-told = search in
+    let f = taken-permitted _ _ _ (sym (judged .judge .ensures) ∙ told .enum-told .given .1) in
     let m = c .before .before .match-lengths .ensures in
     (f .0 .some, f .0 .within, omega (arith, f .0 .within, m .1 .size), m .0)
 
 returns-2 : tie.Need-returns-2
 returns-2 c =
-    let e = sym (c .before .before .before .before .before .before .before .judge .ensures) ∙ c .before .before .before .before .before .enum-told .given .1 in
+    let judged : tie.After-judge = search in
+    let told : tie.After-enum-told = search in
+    let e = sym (judged .judge .ensures) ∙ told .enum-told .given .1 in
     repeated-done _ _ e _ (c .first-period .ensures)
 
 pub repeat-spec : {M : Type 1} → statement M

@@ -10,6 +10,7 @@ use lib.Seq.{take-all}
 use Rattle.words.specs.Factor.{FirstRun}
 use Rattle.words.proofs.Factor.{run-within}
 use Rattle.words.proofs.StartTable.{Flagging, flagging-none, flagging-low, flagging-next, flagged-head, run-some}
+use Rattle.ring.specs.Judging.{most}
 use Rattle.ring.proofs.start_table.flag_heads.Statement.{statement}
 use Rattle.ring.proofs.start_table.flag_heads.Tie as tie
 
@@ -17,7 +18,7 @@ whole : (w : List ℕ) (m p e : ℕ) → FirstRun (take (length w - m) (drop m w
 whole w m p e r = rw (take-all (length w - m) (drop m w) (omega (arith, length-drop m w))) at r
 
 abbrev Inv-loop : tie.InvT-loop
-Inv-loop w t₀ facing m₀ t m = Flagging 8192 w t₀ t m
+Inv-loop w t₀ facing m₀ t m = Flagging most w t₀ t m
 
 abbrev μ-loop : tie.MeasureT-loop
 μ-loop w t₀ facing m₀ t m = length w - m
@@ -26,7 +27,7 @@ facing-table-requires : tie.Need-facing-table-requires Inv-loop μ-loop
 facing-table-requires c κs = search needs
 
 loop-holds : tie.Need-loop-holds Inv-loop μ-loop
-loop-holds c = flagging-none 8192 _ _
+loop-holds c = flagging-none most _ _
 
 mul-t : tie.Need-mul-t Inv-loop μ-loop
 mul-t c = search needs
@@ -35,7 +36,9 @@ slice-read-t : tie.Need-slice-read-t Inv-loop μ-loop
 slice-read-t c = search needs
 
 add-t : tie.Need-add-t Inv-loop μ-loop
-add-t c = let s = c .before .before .before .before .before .before .pre in omega (arith, flagging-low 8192 _ _ _ _ (s .2) (s .0) (search needs) (c .before .before .loop .inv))
+add-t c =
+    let s = (let e : tie.Start Inv-loop μ-loop = search in e .pre) in
+    omega (arith, flagging-low most _ _ _ _ (s .2) (s .0) (search needs) (c .before .before .loop .inv))
 
 mul-t-2 : tie.Need-mul-t-2 Inv-loop μ-loop
 mul-t-2 c = search needs
@@ -56,23 +59,28 @@ first-run-requires : tie.Need-first-run-requires Inv-loop μ-loop
 first-run-requires c κs = search needs
 
 add-m : tie.Need-add-m Inv-loop μ-loop
-add-m c = let w = c .before .before .before .before .before .before .before .before .before .before .args .w .now in omega (arith, run-within _ _ _ (whole w _ _ _ (c .before .first-run .ensures)), length-drop (c .before .before .before .before .before .before .loop .m) w)
+add-m c =
+    let l : tie.At-loop Inv-loop μ-loop = search in
+    let w = (let e : tie.Start Inv-loop μ-loop = search in e .args .w .now) in
+    omega (arith, run-within _ _ _ (whole w _ _ _ (c .before .first-run .ensures)), length-drop (l .loop .m) w)
 
 loop-less : tie.Need-loop-less Inv-loop μ-loop
 loop-less c = omega (arith, run-some _ _ _ (c .before .first-run .ensures))
 
 loop-again : tie.Need-loop-again Inv-loop μ-loop
 loop-again c =
-    let s = c .before .before .before .before .before .before .before .before .before .before in
-    flagging-next 8192 _ _ _ _ (s .pre .2) (s .pre .0) (search needs) (c .before .before .before .before .before .before .loop .inv) (s .pre .1) _ _ (whole (s .args .w .now) _ _ _ (c .before .first-run .ensures))
+    let s : tie.Start Inv-loop μ-loop = search in
+    let l : tie.At-loop Inv-loop μ-loop = search in
+    flagging-next most _ _ _ _ (s .pre .2) (s .pre .0) (search needs) (l .loop .inv) (s .pre .1) _ _ (whole (s .args .w .now) _ _ _ (c .before .first-run .ensures))
 
 same-length : tie.Need-same-length Inv-loop μ-loop
 same-length c = search needs
 
 returns : tie.Need-returns Inv-loop μ-loop
 returns c =
+    let s : tie.Start Inv-loop μ-loop = search in
     let i = c .before .loop .inv in
-    let e : c .before .loop .m ≡ length (c .before .before .before .before .before .args .w .now) = omega (arith, flagged-head (i .flags) .within) in
+    let e : c .before .loop .m ≡ length (s .args .w .now) = omega (arith, flagged-head (i .flags) .within) in
     (rw e at (i .flags), i .kept)
 
 pub flag-heads-spec : {M : Type 1} → statement M

@@ -6,6 +6,7 @@ use native.Mathlib.Omega.{arith}
 use borrow.Author.Needs.{needs}
 use lib.ListN.{getD}
 use Rattle.words.proofs.StartMark.{unmark-le, judged-far, judged-far-not, judged-whole, judged-reach, judged-low, judged-high}
+use Rattle.ring.specs.Judging.{most}
 use Rattle.ring.proofs.start_table.mark_for.Statement.{statement}
 use Rattle.ring.proofs.start_table.mark_for.Tie as tie
 
@@ -28,10 +29,16 @@ shared-slice-read-if2 : tie.Need-shared-slice-read-if2
 shared-slice-read-if2 c = search needs
 
 returns : tie.Need-returns
-returns c = judged-far 8192 _ _ _ _ _ (c .before .before .before .before .before .pre .1 .0) (search needs) (c .before .before .before .before .before .pre .1 .1) (c .before .before .if1 .taken) (c .if2 .taken)
+returns c =
+    let s : tie.Start = search in
+    let far = (let e : tie.Then1 = search in e .if1 .taken) in
+    judged-far most _ _ _ _ _ (s .pre .1 .0) (search needs) (s .pre .1 .1) far (c .if2 .taken)
 
 returns-2 : tie.Need-returns-2
-returns-2 c = judged-far-not 8192 _ _ _ _ _ (c .before .before .before .before .before .pre .1 .0) (search needs) (c .before .before .before .before .before .pre .1 .1) (c .before .before .if1 .taken) (c .if2 .left)
+returns-2 c =
+    let s : tie.Start = search in
+    let far = (let e : tie.Then1 = search in e .if1 .taken) in
+    judged-far-not most _ _ _ _ _ (s .pre .1 .0) (search needs) (s .pre .1 .1) far (c .if2 .left)
 
 add-if3 : tie.Need-add-if3
 add-if3 c = search needs
@@ -43,7 +50,10 @@ sub-if3 : tie.Need-sub-if3
 sub-if3 c = search needs
 
 returns-3 : tie.Need-returns-3
-returns-3 c = judged-whole 8192 _ _ _ _ _ (c .before .before .before .before .pre .1 .0) (search needs) (c .before .before .before .before .pre .1 .1) (c .before .if1 .left) (sym (c .if3 .taken))
+returns-3 c =
+    let s : tie.Start = search in
+    let near = (let e : tie.Else1 = search in e .if1 .left) in
+    judged-whole most _ _ _ _ _ (s .pre .1 .0) (search needs) (s .pre .1 .1) near (sym (c .if3 .taken))
 
 add-unmarked : tie.Need-add-unmarked
 add-unmarked c = search needs
@@ -68,15 +78,19 @@ sub-i c = search needs
 
 add-i-2 : tie.Need-add-i-2
 add-i-2 c =
-    let a = c .before .before .before .before .before .before .args in
-    let i = a .l + 1 - a .p in
-    omega (arith, c .unmarked .ensures, unmark-le 8192 (getD (a .t .now) i 0), c .before .shared-slice-known4 .given i)
+    let s : tie.Start = search in
+    let i = s .args .l + 1 - s .args .p in
+    omega (arith, c .unmarked .ensures, unmark-le most (getD (s .args .t .now) i 0), c .before .shared-slice-known4 .given i)
 
 add-if4 : tie.Need-add-if4
 add-if4 c = search needs
 
 returns-4 : tie.Need-returns-4
-returns-4 c = judged-reach 8192 _ _ _ _ _ (c .before .before .before .before .before .before .before .pre .1 .0) (search needs) (c .before .before .before .before .before .before .before .pre .1 .1) (c .before .before .before .before .if1 .left) _ (c .before .unmarked .ensures) (search needs) (c .if4 .taken)
+returns-4 c =
+    let s : tie.Start = search in
+    let near = (let e : tie.Else1 = search in e .if1 .left) in
+    let z = (let e : tie.After-unmarked = search in e .unmarked .ensures) in
+    judged-reach most _ _ _ _ _ (s .pre .1 .0) (search needs) (s .pre .1 .1) near _ z (search needs) (c .if4 .taken)
 
 shared-slice-read-if5 : tie.Need-shared-slice-read-if5
 shared-slice-read-if5 c = search needs
@@ -85,10 +99,20 @@ shared-slice-read-if5-2 : tie.Need-shared-slice-read-if5-2
 shared-slice-read-if5-2 c = search needs
 
 returns-5 : tie.Need-returns-5
-returns-5 c = judged-low 8192 _ _ _ _ _ (c .before .before .before .before .before .before .before .before .before .before .pre .1 .0) (search needs) (c .before .before .before .before .before .before .before .before .before .before .pre .1 .1) (c .before .before .before .before .before .before .before .if1 .left) _ (c .before .before .before .before .unmarked .ensures) (search needs) (c .before .before .before .if4 .left) (c .if5 .taken)
+returns-5 c =
+    let s : tie.Start = search in
+    let near = (let e : tie.Else1 = search in e .if1 .left) in
+    let z = (let e : tie.After-unmarked = search in e .unmarked .ensures) in
+    let short = (let e : tie.Else4 = search in e .if4 .left) in
+    judged-low most _ _ _ _ _ (s .pre .1 .0) (search needs) (s .pre .1 .1) near _ z (search needs) short (c .if5 .taken)
 
 returns-6 : tie.Need-returns-6
-returns-6 c = judged-high 8192 _ _ _ _ _ (c .before .before .before .before .before .before .before .before .before .before .pre .1 .0) (search needs) (c .before .before .before .before .before .before .before .before .before .before .pre .1 .1) (c .before .before .before .before .before .before .before .if1 .left) _ (c .before .before .before .before .unmarked .ensures) (search needs) (c .before .before .before .if4 .left) (c .if5 .left)
+returns-6 c =
+    let s : tie.Start = search in
+    let near = (let e : tie.Else1 = search in e .if1 .left) in
+    let z = (let e : tie.After-unmarked = search in e .unmarked .ensures) in
+    let short = (let e : tie.Else4 = search in e .if4 .left) in
+    judged-high most _ _ _ _ _ (s .pre .1 .0) (search needs) (s .pre .1 .1) near _ z (search needs) short (c .if5 .left)
 
 pub mark-for-spec : {M : Type 1} → statement M
 mark-for-spec =

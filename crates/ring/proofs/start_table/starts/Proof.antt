@@ -27,7 +27,8 @@ returns c =
 
 fill-starts-requires : tie.Need-fill-starts-requires
 fill-starts-requires c κs =
-    let f = taken-permitted _ _ _ (sym (c .before .before .before .judge .ensures) ∙ c .before .enum-told .given .1) in
+    let judged : tie.After-judge = search in
+    let f = taken-permitted _ _ _ (sym (judged .judge .ensures) ∙ c .before .enum-told .given .1) in
     (f .0 .some, f .0 .within, ltb-false _ _ (f .1))
 
 said-requires-2 : tie.Need-said-requires-2
@@ -38,9 +39,11 @@ same-length c = search needs
 
 returns-2 : tie.Need-returns-2
 returns-2 c =
-    let e = c .before .before .before .before .before .before .before .judge .ensures in
-    let t = sym e ∙ c .before .before .before .before .before .enum-told .given .1 in
-    (c .said2 .ensures ∙ ap checkedAs e, rw (t, length-startTable) (c .before .before .before .fill-starts .ensures))
+    let filled : tie.After-fill-starts = search in
+    let told : tie.After-enum-told = search in
+    let e = (let e : tie.After-judge = search in e .judge .ensures) in
+    let t = sym e ∙ told .enum-told .given .1 in
+    (c .said2 .ensures ∙ ap checkedAs e, rw (t, length-startTable) (filled .fill-starts .ensures))
 
 pub starts-spec : {M : Type 1} → statement M
 starts-spec =

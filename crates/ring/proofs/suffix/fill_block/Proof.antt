@@ -80,7 +80,9 @@ cast-table-3 : tie.Need-cast-table-3 Inv-loop μ-loop
 cast-table-3 c = search needs
 
 add-table : tie.Need-add-table Inv-loop μ-loop
-add-table c = omega (arith, filled-below _ _ _ _ (c .before .before .before .before .before .before .before .before .loop .l - c .before .before .before .before .before .before .before .before .loop .p) (c .before .before .before .before .before .before .before .before .loop .inv .1) (search needs) (search needs))
+add-table c =
+    let l : tie.At-loop Inv-loop μ-loop = search in
+    omega (arith, filled-below _ _ _ _ (l .loop .l - l .loop .p) (l .loop .inv .1) (search needs) (search needs))
 
 mul-table-4 : tie.Need-mul-table-4 Inv-loop μ-loop
 mul-table-4 c = search needs
@@ -96,8 +98,8 @@ loop-less c = search needs
 
 loop-again : tie.Need-loop-again Inv-loop μ-loop
 loop-again c =
-    let i = c .before .before .before .before .before .before .before .loop .inv in
-    let h = c .before .before .before .before .before .before .loop-test .taken in
+    let i = (let e : tie.At-loop Inv-loop μ-loop = search in e .loop .inv) in
+    let h = (let e : tie.In-loop Inv-loop μ-loop = search in e .loop-test .taken) in
     either (c .if2 .came)
     (λ w. let b = block-greater _ _ _ _ (i .0) h (w .0 .taken) in rw (w .1, w .2) (b, fill-greater _ _ _ _ (i .1) h (omega arith) _ b, rw length-set (i .2)))
     (λ w. let b = block-equal _ _ _ _ (i .0) h (omega (arith, w .0 .left)) in rw (w .2, w .3) (b, fill-equal _ _ _ _ (i .1) h (omega arith) _ _ (i .0) b, rw length-set (i .2)))

@@ -27,7 +27,9 @@ loop-less : tie.Need-loop-less Inv-loop μ-loop
 loop-less c = search needs
 
 loop-again : tie.Need-loop-again Inv-loop μ-loop
-loop-again c = let e = c .before .before .fill-block .ensures in (e .0 .2, filled-on _ _ _ _ _ _ (c .before .before .before .before .before .loop .inv .1) (e .1))
+loop-again c =
+    let l : tie.At-loop Inv-loop μ-loop = search in
+    let e = c .before .before .fill-block .ensures in (e .0 .2, filled-on _ _ _ _ _ _ (l .loop .inv .1) (e .1))
 
 same-length : tie.Need-same-length Inv-loop μ-loop
 same-length c = search needs

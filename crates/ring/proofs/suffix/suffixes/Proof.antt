@@ -26,7 +26,8 @@ returns c =
 
 fill-suffixes-requires : tie.Need-fill-suffixes-requires
 fill-suffixes-requires c κs =
-    let f = taken-permitted _ _ _ (sym (c .before .before .before .judge .ensures) ∙ c .before .enum-told .given .1) in
+    let judged : tie.After-judge = search in
+    let f = taken-permitted _ _ _ (sym (judged .judge .ensures) ∙ c .before .enum-told .given .1) in
     (ltb-false _ _ (f .1), f .0 .within)
 
 said-requires-2 : tie.Need-said-requires-2
@@ -37,9 +38,11 @@ same-length c = search needs
 
 returns-2 : tie.Need-returns-2
 returns-2 c =
-    let e = c .before .before .before .before .before .before .before .judge .ensures in
-    let t = sym e ∙ c .before .before .before .before .before .enum-told .given .1 in
-    (c .said2 .ensures ∙ ap checkedAs e, rw t (c .before .before .before .fill-suffixes .ensures))
+    let filled : tie.After-fill-suffixes = search in
+    let told : tie.After-enum-told = search in
+    let e = (let e : tie.After-judge = search in e .judge .ensures) in
+    let t = sym e ∙ told .enum-told .given .1 in
+    (c .said2 .ensures ∙ ap checkedAs e, rw t (filled .fill-suffixes .ensures))
 
 pub suffixes-spec : {M : Type 1} → statement M
 suffixes-spec =

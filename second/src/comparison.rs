@@ -5,10 +5,10 @@ use crate::keys::{self, Key};
 use crate::lent::Lent;
 use crate::probe;
 use crate::rules::{judge, Refusal};
-use crate::words;
+use std::fmt::{Debug, Display};
 
 /// The first difference ends the run.
-fn differ(call: &str, kind: u8, ring: &[u8], what: String) -> ! {
+fn differ(call: impl Display, kind: u8, ring: &[u8], what: String) -> ! {
     let shown = if ring.len() <= 64 { String::from_utf8_lossy(ring).into_owned() } else { format!("{} letters", ring.len()) };
     eprintln!("DIFFERENCE in {call}, kind {kind}, ring {shown} {:?}: {what}", &ring[..ring.len().min(64)]);
     std::process::exit(1)
@@ -31,7 +31,7 @@ impl Comparison {
     /// Runs one call with values lent to it: enough, more than enough, and now and then one too few.
     pub(crate) fn call(
         &mut self,
-        name: &str,
+        name: impl Display,
         kind: u8,
         ring: &[u8],
         number: u8,
@@ -69,9 +69,9 @@ impl Comparison {
     }
 
     /// Nothing that was lent is written to.
-    pub(crate) fn unchanged<T: Copy + PartialEq + std::fmt::Debug>(
+    pub(crate) fn unchanged<T: Copy + PartialEq + Debug>(
         &self,
-        name: &str,
+        name: impl Display,
         kind: u8,
         ring: &[u8],
         lent: &Lent<T>,
@@ -147,17 +147,24 @@ impl Comparison {
         self.key_part(kind, ring, first, second, done);
     }
 
-    /// A reading written: the only refusal is a short room.
-    pub fn reading(&mut self, ring: &[u8], strand: u8, start: usize, size: usize) {
+    /// The key's letters in one room of the size given.
+    pub fn write_letters(&mut self, kind: u8, ring: &[u8], size: usize, key: Option<&Key>) {
         let lent = self.lend(ring);
+        let verdict = judge(kind, ring, size < ring.len());
+        let (number, place) = numbers(verdict);
+        let done = verdict.ok().map(|()| key.expect("the key of a ring that is taken"));
         let mut room = self.bytes(size);
-        let letters = if strand == 1 { words::opposite(ring) } else { ring.to_vec() };
-        let short = size < ring.len();
-        let number = if short { 4 } else { 0 };
-        self.call("write_reading", strand, ring, number, &[0], |v| probe::write_reading(strand, start, &lent, &mut room, v));
-        let written = if short { vec![] } else { words::reading(&letters, if start < ring.len() { start } else { 0 }) };
-        self.unchanged("write_reading", strand, ring, &room, &written);
-        self.unchanged("write_reading", strand, ring, &lent, ring);
+        let fields = marks(ring, place, done);
+        self.call("write_letters", kind, ring, number, &fields, |v| probe::write_letters(kind, &lent, &mut room, v));
+        self.unchanged("write_letters, its room", kind, ring, &room, done.map_or(&[], |k| &k.letters));
+        self.unchanged("write_letters", kind, ring, &lent, ring);
+    }
+
+    /// A refused answer has its number and its place, and 0 else.
+    pub fn refusal(&mut self, number: u8, place: usize) {
+        let fields = [place as u64, 0, 0, 0];
+        let name = format_args!("refusal, number {number}, place {place}");
+        self.call(name, 0, b"", number, &fields, |v| probe::refusal(number, place, v));
     }
 
     /// How many strands a kind has: those that a ring of it is read on, none where every ring is refused with 6.
@@ -171,17 +178,6 @@ impl Comparison {
         if got != want {
             differ("strands_of", kind, b"", format!("{got}, not {want}"));
         }
-    }
-
-    /// Letters judged as a key.
-    pub fn is_key(&mut self, kind: u8, letters: &[u8], start: usize, strand: u8, want: bool) {
-        let lent = self.lend(letters);
-        self.calls += 1;
-        let got = probe::is_key(kind, &lent, start, strand);
-        if got != want as u8 {
-            differ("is_key", kind, letters, format!("start {start}, strand {strand}: {got}, not {}", want as u8));
-        }
-        self.unchanged("is_key", kind, letters, &lent, letters);
     }
 
     /// Two rings compared: the first is judged in full before the second.

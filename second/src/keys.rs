@@ -13,6 +13,10 @@ pub struct Key {
 }
 
 impl Key {
+    pub fn marks(&self, kind: u8) -> Marks {
+        Marks { kind, start: self.start, strand: self.strand }
+    }
+
     /// What the key's two rooms begin with; nothing in the second for one strand.
     pub fn readings(&self) -> (&[u8], &[u8]) {
         (&self.own, self.other.as_deref().unwrap_or(&[]))
@@ -50,20 +54,35 @@ pub fn same(kind: u8, first: &[u8], second: &[u8]) -> bool {
     first.len() == second.len() && (turned(first) || kind == 1 && turned(&words::opposite(first)))
 }
 
-/// The one ring that can have these letters for its key, with this start and strand: turned back, on the strand named.
-pub fn deposit(letters: &[u8], start: usize, strand: u8) -> Option<Vec<u8>> {
-    if start >= letters.len() {
-        return None;
-    }
-    let turned = words::reading(letters, (letters.len() - start) % letters.len());
-    Some(if strand == 1 { words::opposite(&turned) } else { turned })
+/// What letters are judged with as a key.
+#[derive(Clone, Copy, Debug, PartialEq, Eq)]
+pub struct Marks {
+    pub kind: u8,
+    pub start: usize,
+    pub strand: u8,
 }
 
-/// Whether some ring of the kind has these letters for its key, with this start and strand; the letters are permitted.
-pub fn is_key(kind: u8, letters: &[u8], start: usize, strand: u8) -> bool {
-    let Some(ring) = deposit(letters, start, strand) else {
-        return false;
-    };
-    let key = key(kind, &ring);
-    key.letters == letters && key.start == start && key.strand == strand
+/// The one ring that can have these letters for its key, with these marks: turned back, on the strand named.
+pub fn deposit(marks: Marks, letters: &[u8]) -> Option<Vec<u8>> {
+    if marks.start >= letters.len() || marks.strand > 1 {
+        return None;
+    }
+    let turned = words::reading(letters, (letters.len() - marks.start) % letters.len());
+    Some(if marks.strand == 1 { words::opposite(&turned) } else { turned })
+}
+
+/// The ring that has these letters for its key, with these marks, if one has; the letters are permitted.
+pub fn owner(marks: Marks, letters: &[u8]) -> Option<Vec<u8>> {
+    let ring = deposit(marks, letters)?;
+    let key = key(marks.kind, &ring);
+    (key.letters == letters && key.start == marks.start && key.strand == marks.strand).then_some(ring)
+}
+
+/// All rings that have these letters for their key, with its marks. A key is a reading of its ring or of the opposite
+/// strand, so they are among the readings of the letters and of their opposite strand: all of these are tried.
+pub fn owners(kind: u8, letters: &[u8]) -> Vec<(Marks, Vec<u8>)> {
+    let strands = if kind == 1 { vec![letters.to_vec(), words::opposite(letters)] } else { vec![letters.to_vec()] };
+    let tried = strands.iter().flat_map(|strand| (0..letters.len()).map(|i| words::reading(strand, i)));
+    let keyed = tried.map(|ring| (key(kind, &ring), ring)).filter(|(key, _)| key.letters == letters);
+    keyed.map(|(key, ring)| (Marks { kind, start: key.start, strand: key.strand }, ring)).collect()
 }

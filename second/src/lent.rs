@@ -38,12 +38,12 @@ impl<T: Copy + PartialEq + Debug> Lent<T> {
     /// The front holds `written`, and every other entry, in the margins too, is as it was lent.
     pub fn holds(&self, written: &[T]) -> Result<(), String> {
         let end = MARGIN + written.len();
-        for (i, now) in self.whole.iter().enumerate() {
-            let want = if (MARGIN..end).contains(&i) { written[i - MARGIN] } else { self.was[i] };
-            if *now != want {
-                return Err(format!("entry {} is {:?}, not {:?}", i as isize - MARGIN as isize, now, want));
-            }
+        let kept = self.whole[..MARGIN] == self.was[..MARGIN] && self.whole[end..] == self.was[end..];
+        if kept && self.whole[MARGIN..end] == *written {
+            return Ok(());
         }
-        Ok(())
+        let want = |i: usize| if (MARGIN..end).contains(&i) { written[i - MARGIN] } else { self.was[i] };
+        let i = (0..self.whole.len()).find(|&i| self.whole[i] != want(i)).expect("an entry that differs");
+        Err(format!("entry {} is {:?}, not {:?}", i as isize - MARGIN as isize, self.whole[i], want(i)))
     }
 }

@@ -3,6 +3,8 @@
 
 pub mod cases;
 pub mod comparison;
+pub mod deposit_cases;
+pub mod deposit_comparison;
 pub mod duels;
 pub mod facts;
 pub mod keys;

@@ -1,4 +1,5 @@
 //! The proved library through its C functions: a slice is a pointer and then a length.
+use crate::keys::Marks;
 use crate::lent::Lent;
 
 mod c {
@@ -10,6 +11,16 @@ mod c {
         pub fn probe_duel(kind: u8, ring: *const u8, n: usize, values: *mut u64, v: usize) -> u8;
         pub fn probe_repeat(kind: u8, ring: *const u8, n: usize, values: *mut u64, v: usize) -> u8;
         pub fn probe_mark(kind: u8, ring: *const u8, n: usize, values: *mut u64, v: usize) -> u8;
+        pub fn probe_refusal(number: u8, place: usize, values: *mut u64, v: usize) -> u8;
+        pub fn probe_write_letters(
+            kind: u8,
+            ring: *const u8,
+            n: usize,
+            room: *mut u8,
+            r: usize,
+            values: *mut u64,
+            v: usize,
+        ) -> u8;
         pub fn probe_write_key(
             kind: u8,
             ring: *const u8,
@@ -32,9 +43,20 @@ mod c {
             values: *mut u64,
             v: usize,
         ) -> u8;
-        pub fn probe_write_reading(
-            strand: u8,
+        pub fn probe_strands_of(kind: u8) -> u8;
+        pub fn probe_check_key(
+            kind: u8,
             start: usize,
+            strand: u8,
+            letters: *const u8,
+            n: usize,
+            values: *mut u64,
+            v: usize,
+        ) -> u8;
+        pub fn probe_write_deposit(
+            kind: u8,
+            start: usize,
+            strand: u8,
             letters: *const u8,
             n: usize,
             room: *mut u8,
@@ -42,8 +64,6 @@ mod c {
             values: *mut u64,
             v: usize,
         ) -> u8;
-        pub fn probe_strands_of(kind: u8) -> u8;
-        pub fn probe_is_key(kind: u8, letters: *const u8, n: usize, start: usize, strand: u8) -> u8;
         pub fn probe_compare(kind: u8, first: *const u8, f: usize, second: *const u8, s: usize, values: *mut u64, v: usize)
             -> u8;
         pub fn probe_sheet_write(kind: u8, ring: *const u8, n: usize, room: *mut u8, r: usize, values: *mut u64, v: usize) -> u8;
@@ -112,6 +132,15 @@ pub fn mark(kind: u8, ring: &Bytes, values: &mut Values) -> u8 {
     unsafe { c::probe_mark(kind, ring.front(), ring.size(), values.front_mut(), values.size()) }
 }
 
+pub fn refusal(number: u8, place: usize, values: &mut Values) -> u8 {
+    unsafe { c::probe_refusal(number, place, values.front_mut(), values.size()) }
+}
+
+pub fn write_letters(kind: u8, ring: &Bytes, room: &mut Bytes, values: &mut Values) -> u8 {
+    let (n, r, v) = (ring.size(), room.size(), values.size());
+    unsafe { c::probe_write_letters(kind, ring.front(), n, room.front_mut(), r, values.front_mut(), v) }
+}
+
 pub fn write_key(kind: u8, ring: &Bytes, first: &mut Bytes, second: &mut Bytes, values: &mut Values) -> u8 {
     let (n, f, s, v) = (ring.size(), first.size(), second.size(), values.size());
     let (first, second, values) = (first.front_mut(), second.front_mut(), values.front_mut());
@@ -124,17 +153,20 @@ pub fn key(kind: u8, ring: &Bytes, first: &mut Bytes, second: &mut Bytes, values
     unsafe { c::probe_key(kind, ring.front(), n, first, f, second, s, values, v) }
 }
 
-pub fn write_reading(strand: u8, start: usize, letters: &Bytes, room: &mut Bytes, values: &mut Values) -> u8 {
-    let (n, r, v) = (letters.size(), room.size(), values.size());
-    unsafe { c::probe_write_reading(strand, start, letters.front(), n, room.front_mut(), r, values.front_mut(), v) }
-}
-
 pub fn strands_of(kind: u8) -> u8 {
     unsafe { c::probe_strands_of(kind) }
 }
 
-pub fn is_key(kind: u8, letters: &Bytes, start: usize, strand: u8) -> u8 {
-    unsafe { c::probe_is_key(kind, letters.front(), letters.size(), start, strand) }
+pub fn check_key(marks: Marks, letters: &Bytes, values: &mut Values) -> u8 {
+    let Marks { kind, start, strand } = marks;
+    let (n, v) = (letters.size(), values.size());
+    unsafe { c::probe_check_key(kind, start, strand, letters.front(), n, values.front_mut(), v) }
+}
+
+pub fn write_deposit(marks: Marks, letters: &Bytes, room: &mut Bytes, values: &mut Values) -> u8 {
+    let Marks { kind, start, strand } = marks;
+    let (n, r, v) = (letters.size(), room.size(), values.size());
+    unsafe { c::probe_write_deposit(kind, start, strand, letters.front(), n, room.front_mut(), r, values.front_mut(), v) }
 }
 
 pub fn compare(kind: u8, first: &Bytes, second: &Bytes, values: &mut Values) -> u8 {

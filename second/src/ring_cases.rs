@@ -1,11 +1,11 @@
 //! The calls on rings, each on a ring and on what stands near it.
 use crate::cases::{self, Numbers};
 use crate::comparison::Comparison;
-use crate::facts::{self, Facts};
+use crate::deposit_cases::{about, every_mark, of_key, refused_marks, some_marks};
+use crate::facts::{self, Facts, SHORT};
 use crate::keys::{self, Key};
 use crate::rules::{self, MOST};
 use crate::{report, words};
-use std::collections::HashSet;
 
 /// All that the calls say of a ring that is taken.
 fn known(kind: u8, ring: &[u8]) -> Option<(Facts, Key)> {
@@ -25,10 +25,17 @@ pub fn ring(c: &mut Comparison, kind: u8, ring: &[u8], numbers: &mut Numbers) {
     c.tables(kind, ring, n + more, facts);
     c.alone(kind, ring, facts, key);
     c.rooms(kind, ring, n + more, if kind == 0 { numbers.below(n + 2) } else { n + numbers.below(3) }, key);
-    c.reading(ring, numbers.below(3) as u8, numbers.below(n + 3), n + more);
+    for size in about(n) {
+        c.write_letters(kind, ring, size, key);
+    }
     pairs(c, kind, ring, numbers);
     if let Some((facts, key)) = &known {
-        judged_as_key(c, kind, ring, facts, key);
+        of_key(c, kind, ring, key);
+        if n <= SHORT {
+            every_mark(c, kind, ring);
+        } else {
+            some_marks(c, kind, ring, facts, key);
+        }
         if kind == 1 && n >= LONG {
             c.report(ring, &report::lines(facts, key));
         }
@@ -49,19 +56,6 @@ fn pairs(c: &mut Comparison, kind: u8, ring: &[u8], numbers: &mut Numbers) {
     c.compare(kind, &other, ring);
 }
 
-/// The key's letters with marks that made them and marks that did not, and the ring itself as a key.
-fn judged_as_key(c: &mut Comparison, kind: u8, ring: &[u8], facts: &Facts, key: &Key) {
-    let n = ring.len();
-    for strand in 0..3 {
-        for start in [key.start, key.start + 1, facts.repeat, 0, n, n + 1] {
-            let want = strand < 2 && keys::is_key(kind, &key.letters, start, strand);
-            c.is_key(kind, &key.letters, start, strand, want);
-        }
-    }
-    let want = keys::is_key(kind, ring, 0, 0);
-    c.is_key(kind, ring, 0, 0, want);
-}
-
 /// Tables and rooms of every size about n.
 pub fn sizes(c: &mut Comparison, kind: u8, ring: &[u8]) {
     let n = ring.len();
@@ -73,30 +67,10 @@ pub fn sizes(c: &mut Comparison, kind: u8, ring: &[u8]) {
         for second in about {
             c.rooms(kind, ring, size, second, key);
         }
-        for strand in [0, 1, 2, 255] {
-            for start in [0, 1, n.saturating_sub(1), n, n + 1, usize::MAX] {
-                c.reading(ring, strand, start, size);
-            }
+        c.write_letters(kind, ring, size, key);
+        if let Some(key) = key {
+            c.write_deposit(key.marks(kind), &key.letters, size, Some(ring));
         }
-    }
-}
-
-/// Whether some ring made each key, start and strand: all rings of n letters are tried.
-pub fn every_key(c: &mut Comparison, alphabet: &[u8], longest: usize) {
-    for kind in [0, 1] {
-        let mut made = HashSet::new();
-        cases::every(alphabet, longest, |ring| {
-            let key = keys::key(kind, ring);
-            made.insert((key.letters, key.start, key.strand));
-        });
-        cases::every(alphabet, longest, |letters| {
-            for start in 0..=letters.len() + 1 {
-                for strand in 0..3 {
-                    let want = made.contains(&(letters.to_vec(), start, strand));
-                    c.is_key(kind, letters, start, strand, want);
-                }
-            }
-        });
     }
 }
 
@@ -118,8 +92,11 @@ fn refusable() -> Vec<Vec<u8>> {
 
 /// Every refusal, and rings that meet several: the first in the order decides.
 pub fn refusals(c: &mut Comparison) {
-    for kind in 0..=255 {
-        c.strands_of(kind);
+    for byte in 0..=255 {
+        c.strands_of(byte);
+        for place in [0, 1, 255, 256, MOST - 1, MOST, u32::MAX as usize, usize::MAX] {
+            c.refusal(byte, place);
+        }
     }
     let rings = refusable();
     for kind in [0, 1, 2, 3, 127, 128, 255] {
@@ -142,7 +119,7 @@ pub fn refusals(c: &mut Comparison) {
     }
 }
 
-/// One ring with tables and rooms that are long enough and that are not.
+/// One ring with tables and rooms that are long enough and that are not, and its letters judged as a key.
 fn refusal(c: &mut Comparison, kind: u8, ring: &[u8]) {
     let n = ring.len();
     let known = known(kind, ring);
@@ -157,10 +134,7 @@ fn refusal(c: &mut Comparison, kind: u8, ring: &[u8]) {
         for second in [0, n.saturating_sub(1), n, n + 1] {
             c.rooms(kind, ring, size, second, key);
         }
-        c.reading(ring, kind, n / 2, size);
+        c.write_letters(kind, ring, size, key);
     }
-    for strand in [0, 1, 2] {
-        let want = known.is_some() && strand < 2 && keys::is_key(kind, ring, 0, strand);
-        c.is_key(kind, ring, 0, strand, want);
-    }
+    refused_marks(c, kind, ring);
 }

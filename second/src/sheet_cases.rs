@@ -12,7 +12,7 @@ pub fn sheet(c: &mut Comparison, kind: u8, ring: &[u8], numbers: &mut Numbers) -
     }
     let bytes = sheets::bytes(kind, &key);
     let sheet = sheets::read(&bytes).expect("a sheet that the writer made");
-    assert_eq!(sheets::original(&sheet), ring);
+    assert_eq!(sheet.deposit, ring);
     let more = numbers.below(12);
     let garbage = [&numbers.word(b"ACGT\x00\x08RG", more)[..], &bytes].concat();
     for bytes in [&bytes, &garbage] {

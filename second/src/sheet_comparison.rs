@@ -36,12 +36,12 @@ impl Comparison {
             let mut room = self.bytes(size);
             let made = match &sheet {
                 Ok(s) if size < s.letters.len() => Err(refusal(4)),
-                Ok(s) => Ok(sheets::original(s)),
+                Ok(s) => Ok(&s.deposit[..]),
                 Err(r) => Err(*r),
             };
             let (number, place) = numbers(made.as_ref().map(|_| ()).map_err(|r| *r));
             self.call("sheet_original", 0, bytes, number, &[place], |v| probe::sheet_original(&lent, &mut room, v));
-            self.unchanged("sheet_original", 0, bytes, &room, &made.unwrap_or_default());
+            self.unchanged("sheet_original", 0, bytes, &room, made.unwrap_or_default());
         }
         self.unchanged("sheet_read", 0, bytes, &lent, bytes);
     }

@@ -1,5 +1,5 @@
 //! The catalogue sheet and the book, from the format's table.
-use crate::keys::{self, Key};
+use crate::keys::{self, Key, Marks};
 use crate::rules;
 use crate::rules::{refusal, Refusal, MOST};
 
@@ -14,6 +14,8 @@ pub struct Sheet {
     pub strand: u8,
     pub kind: u8,
     pub before: usize,
+    /// The deposit's original letters.
+    pub deposit: Vec<u8>,
 }
 
 /// The bytes of the sheet for a key.
@@ -46,15 +48,10 @@ pub fn read(bytes: &[u8]) -> Result<Sheet, Refusal> {
     let before = front.len() - n;
     let letters = front[before..].to_vec();
     rules::judge(kind, &letters, false)?;
-    if !keys::is_key(kind, &letters, start, strand) {
+    let Some(deposit) = keys::owner(Marks { kind, start, strand }, &letters) else {
         return Err(refusal(7));
-    }
-    Ok(Sheet { letters, start, strand, kind, before })
-}
-
-/// The deposit's original letters.
-pub fn original(sheet: &Sheet) -> Vec<u8> {
-    keys::deposit(&sheet.letters, sheet.start, sheet.strand).unwrap()
+    };
+    Ok(Sheet { letters, start, strand, kind, before, deposit })
 }
 
 /// How many sheets a book holds; the one nearest the end is read first.

@@ -1,9 +1,10 @@
 //! Compares the library with the second program on many rings. One line for each stage, or the first difference.
 use second::cases::{self, Numbers};
 use second::comparison::Comparison;
+use second::deposit_cases::{every_key, every_mark};
 use second::long_sheets::{changed, cut, marks, wrong_letters};
 use second::report_comparison::{processes, reports};
-use second::ring_cases::{every_key, refusals, ring, sizes};
+use second::ring_cases::{refusals, ring, sizes};
 use second::sheet_cases::{damaged, sheet, trailers};
 use second::{facts, report};
 use std::time::Instant;
@@ -38,8 +39,9 @@ fn every_ring(c: &mut Comparison, numbers: &mut Numbers) {
 }
 
 fn every_size(c: &mut Comparison, _: &mut Numbers) {
-    for kind in [0, 1] {
+    for kind in [0, 1, 2, 255] {
         cases::every(b"ACGT", 4, |w| sizes(c, kind, w));
+        cases::every(b"ACGTN", 4, |w| every_mark(c, kind, w));
     }
     every_key(c, b"ACGT", 5);
     every_key(c, b"AT", 9);

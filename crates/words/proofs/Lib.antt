@@ -32,7 +32,7 @@ pub mod StartScan
 pub mod StartHead
 pub mod Match
 pub mod StartMatch
-pub mod StartMark
+pub mod StartTick
 pub mod StartFill
 pub mod StartTable
 pub mod Table

@@ -12,7 +12,7 @@ use Rattle.words.specs.Factor.{FirstRun}
 use Rattle.words.specs.Prefix.{startTable}
 use Rattle.words.specs.Match.{MatchTable, Kept}
 use Rattle.words.specs.Block.{Head}
-use Rattle.words.specs.Mark.{Flagged, none, more, Fresh, Done}
+use Rattle.words.specs.Tick.{Flagged, none, more, Fresh, Done}
 use Rattle.words.proofs.Search.{either, lt-or-ge}
 use Rattle.words.proofs.Factor.{run-word, run-size}
 use Rattle.words.proofs.Prefix.{length-startTable, startTable-at}
@@ -134,7 +134,7 @@ turned-first h w t f = record {
 pub turned-within : (h : ℕ) (w o t : List ℕ) (c : ℕ) → Turned h w o t c → c ≤ length w
 turned-within h w o t c g = omega (arith, g .order, flagged-head (g .flags) .within)
 
--- a head at c: its block is ready to be marked, and once it is filled c is passed
+-- a head at c: its block is ready to be ticked, and once it is filled c is passed
 pub record Met (h : ℕ) (w o t : List ℕ) (c : ℕ) : Type 0 where
   pub head : Head w c
   pub within : c < length w

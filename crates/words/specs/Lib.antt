@@ -17,4 +17,4 @@ pub mod Block
 pub mod Fill
 pub mod Start
 pub mod Match
-pub mod Mark
+pub mod Tick

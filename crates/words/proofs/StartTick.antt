@@ -1,4 +1,4 @@
--- The marks of a block: what to add to the next entry, by each of the tests, and what a loop that marks the block keeps.
+-- The ticks of a block: what to add to the next entry, by each of the tests, and what a loop that ticks the block keeps.
 -- Assumes nothing.
 use mathlib.Core.Path.{_≡_, refl, sym, ap, _∙_}
 use mathlib.Core.List.{List}
@@ -13,7 +13,7 @@ use Rattle.words.specs.Factor.{longest}
 use Rattle.words.specs.Match.{MatchLength}
 use Rattle.words.specs.Block.{Head, Block}
 use Rattle.words.specs.Start.{AtMost, More, Chain}
-use Rattle.words.specs.Mark.{unmark, Mark, yes, no, Judged, add, leave, Outside, Fresh, Marking}
+use Rattle.words.specs.Tick.{untick, Tick, yes, no, Judged, add, leave, Outside, Fresh, Ticking}
 use Rattle.words.proofs.Scan.{drop-take}
 use Rattle.words.proofs.Search.{either, lt-or-ge}
 use Rattle.words.proofs.Factor.{longest-least, longest-within}
@@ -45,56 +45,56 @@ outside-at o t m l v h f = record {
   behind = λ i x. f .behind i x ∙ getD-set-other o m i v 0 (λ q. omega arith);
 }
 
--- ---- marks
+-- ---- ticks
 
-pub unmark-high : (h v : ℕ) → h + h ≤ v → unmark h v ≡ v - (h + h)
-unfolding unmark
-unmark-high h v l = rw (le-leb (h + h) v l)
+pub untick-high : (h v : ℕ) → h + h ≤ v → untick h v ≡ v - (h + h)
+unfolding untick
+untick-high h v l = rw (le-leb (h + h) v l)
 
-pub unmark-low : (h v : ℕ) → v < h + h → unmark h v ≡ v
-unfolding unmark
-unmark-low h v l = rw (lt-leb (h + h) v l)
+pub untick-low : (h v : ℕ) → v < h + h → untick h v ≡ v
+unfolding untick
+untick-low h v l = rw (lt-leb (h + h) v l)
 
-pub unmark-le : (h v : ℕ) → unmark h v ≤ v
-unmark-le h v = either (lt-or-ge v (h + h)) (λ l. omega (arith, unmark-low h v l)) (λ l. omega (arith, unmark-high h v l))
+pub untick-le : (h v : ℕ) → untick h v ≤ v
+untick-le h v = either (lt-or-ge v (h + h)) (λ l. omega (arith, untick-low h v l)) (λ l. omega (arith, untick-high h v l))
 
-marked-by : (h : ℕ) (s b : List ℕ) (j v a : ℕ) → v < h + h → Judged h s b j a → Mark h s b j (v + a)
-marked-by h s b j v a l (add e c) = yes (omega arith) c
-marked-by h s b j v a l (leave e p c) = no (omega arith) p c
+ticked-by : (h : ℕ) (s b : List ℕ) (j v a : ℕ) → v < h + h → Judged h s b j a → Tick h s b j (v + a)
+ticked-by h s b j v a l (add e c) = yes (omega arith) c
+ticked-by h s b j v a l (leave e p c) = no (omega arith) p c
 
-unmarked-by : (h : ℕ) (s b : List ℕ) (j v a : ℕ) → v < h + h → Judged h s b j a → unmark h (v + a) ≡ unmark h v
-unmarked-by h s b j v a l (add e c) = unmark-high h (v + a) (omega arith) ∙ omega (arith, unmark-low h v l)
-unmarked-by h s b j v a l (leave e p c) = unmark-low h (v + a) (omega arith) ∙ omega (arith, unmark-low h v l)
+unticked-by : (h : ℕ) (s b : List ℕ) (j v a : ℕ) → v < h + h → Judged h s b j a → untick h (v + a) ≡ untick h v
+unticked-by h s b j v a l (add e c) = untick-high h (v + a) (omega arith) ∙ omega (arith, untick-low h v l)
+unticked-by h s b j v a l (leave e p c) = untick-low h (v + a) (omega arith) ∙ omega (arith, untick-low h v l)
 
 -- what is added to an entry is 0 or h + h
 pub judged-size : {h : ℕ} {s b : List ℕ} {j a : ℕ} → Judged h s b j a → a ≤ h + h
 judged-size (add e c) = omega arith
 judged-size (leave e p c) = omega arith
 
--- ---- the marking of a block
+-- ---- the ticking of a block
 
 -- the head's own entry
-pub marking-first : (h : ℕ) (w t : List ℕ) (m : ℕ) → Head w m → m < length w → length w ≤ length t → Fresh h w t m → Marking h w (set t m (h + h)) m 1 (m + 1)
-marking-first h w t m a l r f =
+pub ticking-first : (h : ℕ) (w t : List ℕ) (m : ℕ) → Head w m → m < length w → length w ≤ length t → Fresh h w t m → Ticking h w (set t m (h + h)) m 1 (m + 1)
+ticking-first h w t m a l r f =
     let b = block-first w m a l in
     let x : m + 1 - m - 1 ≡ 0 = omega arith in
     let y : m + 1 - m ≡ 1 = omega arith in
     let c : Chain (drop m w) (take m w) 1 0 = chain-new (drop m w) (take m w) 1 (rw (x, y) at (b .scan)) in
     record {
       block = b;
-      mark = λ i p q. let e : i ≡ m = omega arith in
+      tick = λ i p q. let e : i ≡ m = omega arith in
           let d : suc m - m ≡ 1 = omega arith in
           rw (e, getD-set-same t m (h + h) 0 (omega arith), d) (yes (omega arith) c);
-      match = λ i p q. rw (getD-set-other t m i (h + h) 0 (λ e. omega arith), unmark-low h (getD t i 0) (f .small i (omega arith) (omega (arith, longest-within (drop m w), length-drop m w)))) (f .match i p q);
+      match = λ i p q. rw (getD-set-other t m i (h + h) 0 (λ e. omega arith), untick-low h (getD t i 0) (f .small i (omega arith) (omega (arith, longest-within (drop m w), length-drop m w)))) (f .match i p q);
       small = λ i p q. rw (getD-set-other t m i (h + h) 0 (λ e. omega arith)) (f .small i (omega arith) q);
       up = λ i q x y. absurd (omega arith);
     }
 
-module _ (h : ℕ) (w t : List ℕ) (m p l : ℕ) (g : Marking h w t m p l) (n : l < length w) where
+module _ (h : ℕ) (w t : List ℕ) (m p l : ℕ) (g : Ticking h w t m p l) (n : l < length w) where
   -- one entry more
-  pub marking-more : length w ≤ length t → getD w (l - p) 0 ≤ getD w l 0 → (q : ℕ) → Block w m q (l + 1) → (a : ℕ)
-      → Judged h (drop m w) (take m w) (l + 1 - m) a → Marking h w (set t l (getD t l 0 + a)) m q (l + 1)
-  marking-more r x q b a j =
+  pub ticking-more : length w ≤ length t → getD w (l - p) 0 ≤ getD w l 0 → (q : ℕ) → Block w m q (l + 1) → (a : ℕ)
+      → Judged h (drop m w) (take m w) (l + 1 - m) a → Ticking h w (set t l (getD t l 0 + a)) m q (l + 1)
+  ticking-more r x q b a j =
       let v : ℕ = getD t l 0 in
       let e : getD (set t l (v + a)) l 0 ≡ v + a = getD-set-same t l (v + a) 0 (omega arith) in
       let o : (i : ℕ) → (i ≡ l → ⊥) → getD (set t l (v + a)) i 0 ≡ getD t i 0 = λ i z. getD-set-other t l i (v + a) 0 z in
@@ -102,9 +102,9 @@ module _ (h : ℕ) (w t : List ℕ) (m p l : ℕ) (g : Marking h w t m p l) (n :
       let y : l + 1 - m ≡ suc l - m = omega arith in
       record {
         block = b;
-        mark = λ i c d. either (eq-or-lt-of-le {n = i} {m = l} (omega arith)) (λ z. rw (z, e, ← y) (marked-by h _ _ _ v a s j)) (λ z. rw (o i (λ k. omega arith)) (g .mark i c z));
+        tick = λ i c d. either (eq-or-lt-of-le {n = i} {m = l} (omega arith)) (λ z. rw (z, e, ← y) (ticked-by h _ _ _ v a s j)) (λ z. rw (o i (λ k. omega arith)) (g .tick i c z));
         match = λ i c d. either (lt-or-ge i l) (λ z. rw (o i (λ k. omega arith)) (g .match i c d))
-            (λ z. either (eq-or-lt-of-le z) (λ k. rw (← k, e, unmarked-by h _ _ _ v a s j) (rw (← k) at (g .match i c d))) (λ k. rw (o i (λ x. omega arith)) (g .match i c d)));
+            (λ z. either (eq-or-lt-of-le z) (λ k. rw (← k, e, unticked-by h _ _ _ v a s j) (rw (← k) at (g .match i c d))) (λ k. rw (o i (λ x. omega arith)) (g .match i c d)));
         small = λ i c d. rw (o i (λ k. omega arith)) (g .small i (omega arith) d);
         up = λ i k c d f. either (eq-or-lt-of-le {n = i} {m = l} (omega arith))
             (λ z. let k-is : p ≡ k = block-one w m p k l (g .block) (rw z at f) in rw (z, ← k-is) x) (λ z. g .up i k c z f);
@@ -124,17 +124,17 @@ module _ (h : ℕ) (w t : List ℕ) (m p l : ℕ) (g : Marking h w t m p l) (n :
     some : 0 < p
     some = g .block .some
 
-    earlier : Mark h (drop m w) (take m w) (l + 1 - m - p) (getD t (l - p) 0)
+    earlier : Tick h (drop m w) (take m w) (l + 1 - m - p) (getD t (l - p) 0)
     earlier =
         let e : suc (l - p) - m ≡ l + 1 - m - p = omega (arith, below) in
-        rw e at (g .mark (l - p) (omega (arith, below)) (omega (arith, below, some)))
+        rw e at (g .tick (l - p) (omega (arith, below)) (omega (arith, below, some)))
 
     module _ (c : p + p < l + 1 - m) where
-      far-add : Mark h (drop m w) (take m w) (l + 1 - m - p) (getD t (l - p) 0) → h + h ≤ getD t (l - p) 0 → Judged h (drop m w) (take m w) (l + 1 - m) (h + h)
+      far-add : Tick h (drop m w) (take m w) (l + 1 - m - p) (getD t (l - p) 0) → h + h ≤ getD t (l - p) 0 → Judged h (drop m w) (take m w) (l + 1 - m) (h + h)
       far-add (no x y z) q = absurd (omega arith)
       far-add (yes x z) q = add refl (far-good (drop m w) _ _ (d .scan) (omega arith) (take m w) _ (omega (arith, below)) z refl)
 
-      far-leave : Mark h (drop m w) (take m w) (l + 1 - m - p) (getD t (l - p) 0) → getD t (l - p) 0 < h + h → Judged h (drop m w) (take m w) (l + 1 - m) 0
+      far-leave : Tick h (drop m w) (take m w) (l + 1 - m - p) (getD t (l - p) 0) → getD t (l - p) 0 < h + h → Judged h (drop m w) (take m w) (l + 1 - m) 0
       far-leave (yes x z) q = absurd (omega arith)
       far-leave (no {n = i} x y z) q = leave {n = l + 1 - m - (l + 1 - m - p) + i} refl (omega arith) (far-bad (drop m w) _ _ (d .scan) (omega arith) (take m w) _ (omega (arith, below)) z y)
 
@@ -153,7 +153,7 @@ module _ (h : ℕ) (w t : List ℕ) (m p l : ℕ) (g : Marking h w t m p l) (n :
           let e : l + 1 - m - (l + 1 - m - p) ≡ p = omega (arith, below) in
           add refl (near-good (drop m w) _ _ (d .scan) (omega (arith, below)) (take m w) (omega (arith, below)) (rw e o))
 
-      near-leave : Mark h (drop m w) (take m w) (l + 1 - m - p) (getD t (l - p) 0) → More (drop (l + 1 - m - p) (take p (drop m w))) (take m w)
+      near-leave : Tick h (drop m w) (take m w) (l + 1 - m - p) (getD t (l - p) 0) → More (drop (l + 1 - m - p) (take p (drop m w))) (take m w)
           → Judged h (drop m w) (take m w) (l + 1 - m) 0
       near-leave (yes x z) o =
           let e : l + 1 - m - (l + 1 - m - p) ≡ p = omega (arith, below) in
@@ -174,7 +174,7 @@ module _ (h : ℕ) (w t : List ℕ) (m p l : ℕ) (g : Marking h w t m p l) (n :
           let e : m + (l + 1 - m - p) ≡ l + 1 - p = omega (arith, below) in
           ap (λ i. drop i (take (m + p) w)) (sym e) ∙ sym (drop-drop (l + 1 - m - p) m (take (m + p) w)) ∙ ap (drop (l + 1 - m - p)) (drop-take m p w (g .block .head .within))
 
-      module _ (z : ℕ) (e : z ≡ unmark h (getD t (l + 1 - p) 0)) (c2 : l + 1 - m < p + p) where
+      module _ (z : ℕ) (e : z ≡ untick h (getD t (l + 1 - p) 0)) (c2 : l + 1 - m < p + p) where
         matched : MatchLength w (l + 1 - p) z
         matched =
             let q : p ≤ longest (drop m w) = longest-least (drop m w) p (rw length-drop (omega (arith, below))) word in

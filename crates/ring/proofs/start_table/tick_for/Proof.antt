@@ -1,14 +1,14 @@
--- `start_table::mark_for` meets its contract: each way out is one of the tests of `Rattle.words.proofs.StartMark`.
+-- `start_table::tick_for` meets its contract: each way out is one of the tests of `Rattle.words.proofs.StartTick`.
 -- Assumes nothing.
 use mathlib.Core.Path.{sym}
 use Prim.Native.Nat.{_+_, _-_}
 use native.Mathlib.Omega.{arith}
 use borrow.Author.Needs.{needs}
 use lib.ListN.{getD}
-use Rattle.words.proofs.StartMark.{unmark-le, judged-far, judged-far-not, judged-whole, judged-reach, judged-low, judged-high}
+use Rattle.words.proofs.StartTick.{untick-le, judged-far, judged-far-not, judged-whole, judged-reach, judged-low, judged-high}
 use Rattle.ring.specs.Judging.{most}
-use Rattle.ring.proofs.start_table.mark_for.Statement.{statement}
-use Rattle.ring.proofs.start_table.mark_for.Tie as tie
+use Rattle.ring.proofs.start_table.tick_for.Statement.{statement}
+use Rattle.ring.proofs.start_table.tick_for.Tie as tie
 
 add-if1 : tie.Need-add-if1
 add-if1 c = search needs
@@ -55,20 +55,20 @@ returns-3 c =
     let near = (let e : tie.Else1 = search in e .if1 .left) in
     judged-whole most _ _ _ _ _ (s .pre .1 .0) (search needs) (s .pre .1 .1) near (sym (c .if3 .taken))
 
-add-unmarked : tie.Need-add-unmarked
-add-unmarked c = search needs
+add-unticked : tie.Need-add-unticked
+add-unticked c = search needs
 
-sub-unmarked : tie.Need-sub-unmarked
-sub-unmarked c = search needs
+sub-unticked : tie.Need-sub-unticked
+sub-unticked c = search needs
 
-mul-unmarked : tie.Need-mul-unmarked
-mul-unmarked c = search needs
+mul-unticked : tie.Need-mul-unticked
+mul-unticked c = search needs
 
-shared-slice-read-unmarked : tie.Need-shared-slice-read-unmarked
-shared-slice-read-unmarked c = search needs
+shared-slice-read-unticked : tie.Need-shared-slice-read-unticked
+shared-slice-read-unticked c = search needs
 
-unmarked-requires : tie.Need-unmarked-requires
-unmarked-requires c κs = search needs
+unticked-requires : tie.Need-unticked-requires
+unticked-requires c κs = search needs
 
 add-i : tie.Need-add-i
 add-i c = search needs
@@ -80,7 +80,7 @@ add-i-2 : tie.Need-add-i-2
 add-i-2 c =
     let s : tie.Start = search in
     let i = s .args .l + 1 - s .args .p in
-    omega (arith, c .unmarked .ensures, unmark-le most (getD (s .args .t .now) i 0), c .before .shared-slice-known4 .given i)
+    omega (arith, c .unticked .ensures, untick-le most (getD (s .args .t .now) i 0), c .before .shared-slice-known4 .given i)
 
 add-if4 : tie.Need-add-if4
 add-if4 c = search needs
@@ -89,7 +89,7 @@ returns-4 : tie.Need-returns-4
 returns-4 c =
     let s : tie.Start = search in
     let near = (let e : tie.Else1 = search in e .if1 .left) in
-    let z = (let e : tie.After-unmarked = search in e .unmarked .ensures) in
+    let z = (let e : tie.After-unticked = search in e .unticked .ensures) in
     judged-reach most _ _ _ _ _ (s .pre .1 .0) (search needs) (s .pre .1 .1) near _ z (search needs) (c .if4 .taken)
 
 shared-slice-read-if5 : tie.Need-shared-slice-read-if5
@@ -102,7 +102,7 @@ returns-5 : tie.Need-returns-5
 returns-5 c =
     let s : tie.Start = search in
     let near = (let e : tie.Else1 = search in e .if1 .left) in
-    let z = (let e : tie.After-unmarked = search in e .unmarked .ensures) in
+    let z = (let e : tie.After-unticked = search in e .unticked .ensures) in
     let short = (let e : tie.Else4 = search in e .if4 .left) in
     judged-low most _ _ _ _ _ (s .pre .1 .0) (search needs) (s .pre .1 .1) near _ z (search needs) short (c .if5 .taken)
 
@@ -110,12 +110,12 @@ returns-6 : tie.Need-returns-6
 returns-6 c =
     let s : tie.Start = search in
     let near = (let e : tie.Else1 = search in e .if1 .left) in
-    let z = (let e : tie.After-unmarked = search in e .unmarked .ensures) in
+    let z = (let e : tie.After-unticked = search in e .unticked .ensures) in
     let short = (let e : tie.Else4 = search in e .if4 .left) in
     judged-high most _ _ _ _ _ (s .pre .1 .0) (search needs) (s .pre .1 .1) near _ z (search needs) short (c .if5 .left)
 
-pub mark-for-spec : {M : Type 1} → statement M
-mark-for-spec =
+pub tick-for-spec : {M : Type 1} → statement M
+tick-for-spec =
     tie.close
     (tie.spec
     add-if1
@@ -130,11 +130,11 @@ mark-for-spec =
     add-if3-2
     sub-if3
     returns-3
-    add-unmarked
-    sub-unmarked
-    mul-unmarked
-    shared-slice-read-unmarked
-    unmarked-requires
+    add-unticked
+    sub-unticked
+    mul-unticked
+    shared-slice-read-unticked
+    unticked-requires
     add-i
     sub-i
     add-i-2

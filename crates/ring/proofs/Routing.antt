@@ -12,7 +12,7 @@ use lib.ListN.{length, take, drop, set, length-append, length-drop, take-append-
 use lib.Seq.{take-all, drop-drop, drop-length, length-take-le}
 use Rattle.words.specs.Least.{better}
 use Rattle.words.specs.Ring.{reading, start}
-use Rattle.words.specs.Block.{Scan, FirstFactor}
+use Rattle.words.specs.Scan.{Scan, FirstFactor}
 use Rattle.words.specs.Factor.{factors, firsts, factorTable}
 use Rattle.words.proofs.Search.{by-test}
 use Rattle.words.proofs.Factor.{factors-first}

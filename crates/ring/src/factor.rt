@@ -3,7 +3,7 @@ ghost use mathlib.Core.Path.{_≡_};
 ghost use mathlib.Core.Bool.{cond};
 ghost use Prim.Native.Nat.{_<_, _≤_};
 ghost use lib.ListN.{length};
-ghost use Rattle.words.specs.Block.{Scan, FirstFactor};
+ghost use Rattle.words.specs.Scan.{Scan, FirstFactor};
 ghost use Rattle.words.specs.Factor.{FirstRun, factorTable};
 ghost use Rattle.words.specs.Least.{better};
 ghost use Rattle.words.specs.Ring.{start, reading};

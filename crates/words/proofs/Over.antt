@@ -10,7 +10,7 @@ use lib.Seq.{drop-append-le}
 use Rattle.words.specs.Order.{_≺_, letter, next, _≪_, here, later}
 use Rattle.words.specs.Lyndon.{Lyndon}
 use Rattle.words.specs.Factor.{flat, copies}
-pub use Rattle.words.specs.Block.{Over, part, again}
+pub use Rattle.words.specs.Scan.{Over, part, again}
 use Rattle.words.proofs.Order.{append-left, decided, decided-left, decided-under, prefix-before}
 use Rattle.words.proofs.Lyndon.{join}
 

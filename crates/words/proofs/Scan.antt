@@ -13,7 +13,7 @@ use lib.Seq.{take-take, take-add, take-suc, drop-cons, drop-at, getD-at, getD-ta
 use Rattle.words.specs.Order.{_≪_}
 use Rattle.words.specs.Lyndon.{Lyndon}
 use Rattle.words.specs.Factor.{flat, copies, FirstRun}
-pub use Rattle.words.specs.Block.{Scan, FirstFactor}
+pub use Rattle.words.specs.Scan.{Scan, FirstFactor}
 use Rattle.words.proofs.Lyndon.{lyndon-is}
 use Rattle.words.proofs.Factor.{run-factors, run-longest, length-copies}
 use Rattle.words.proofs.Over.{Over, part, again, greater, equal, expected, Rest, lesser}

@@ -13,6 +13,7 @@ pub mod Duel
 pub mod Table
 -- What only the contracts of inner functions cite
 pub mod Paired
+pub mod Scan
 pub mod Block
 pub mod Fill
 pub mod Start

@@ -18,12 +18,7 @@ pub extern "C" fn probe_sheet_write(
     ensures { λ _. ⌜ now (values .exit) ≡ told (markedFields (writtenOf kind (now (ring .entry)) (length (now (room .entry))))) (now (values .entry)) ⌝ }
     ensures { λ _. ⌜ now (room .exit) ≡ writtenRoom kind (now (ring .entry)) (now (room .entry)) ⌝ }
 {
-    let a = sheet::write(ring, kind, room);
-    tell::tell(
-        values,
-        &[a.place as u64, a.n as u64, a.start as u64, a.strand as u64],
-    );
-    a.number
+    tell::marks(values, sheet::write(ring, kind, room))
 }
 
 #[no_mangle]

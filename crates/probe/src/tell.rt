@@ -1,6 +1,7 @@
 // The fields of an answer, told to a host.
 ghost use mathlib.Core.Path.{_≡_};
-ghost use Rattle.probe.specs.Told.{told};
+ghost use Rattle.probe.specs.Told.{told, markedFields};
+use ring::Marked;
 
 // Writes the fields to the front of `values`; too few values are left alone.
 pub fn tell(values: &mut [u64], fields: &[u64])
@@ -15,4 +16,16 @@ pub fn tell(values: &mut [u64], fields: &[u64])
         values[i] = fields[i];
         i += 1;
     }
+}
+
+// Tells the marks of an answer, and gives its number back.
+pub fn marks(values: &mut [u64], a: Marked) -> u8
+    ensures { λ r. ⌜ r ≡ a .number ⌝ }
+    ensures { λ _. ⌜ now (values .exit) ≡ told (markedFields a) (now (values .entry)) ⌝ }
+{
+    tell(
+        values,
+        &[a.place as u64, a.n as u64, a.start as u64, a.strand as u64],
+    );
+    a.number
 }

@@ -68,6 +68,23 @@ fn key(call: keys::Call, ring: &[u8], kind: u8, size: usize) {
     kept(blank(&second));
 }
 
+fn write_letters(ring: &[u8], kind: u8, size: usize) {
+    let mut room = [b'.'; 8204];
+    bar();
+    marked(ring::write_letters(ring, kind, middle(&mut room, size)));
+    kept(blank(&room));
+}
+
+// The ring's own letters judged as a key at start 0 of strand 0, and the deposit that has it.
+fn as_key(ring: &[u8], kind: u8, size: usize) {
+    let mut room = [b'.'; 8204];
+    bar();
+    marked(ring::check_key(ring, kind, 0, 0));
+    bar();
+    marked(ring::write_deposit(ring, kind, 0, 0, middle(&mut room, size)));
+    kept(blank(&room));
+}
+
 // The sheet's room has 8 bytes more than the others.
 fn write(ring: &[u8], kind: u8, size: usize) {
     if 8200 < size {
@@ -99,13 +116,16 @@ fn heading(ring: &[u8], kind: u8, size: usize) {
     line();
 }
 
-// The answers in the order check, duel, repeat, mark, factors, suffixes, starts, write_key, key, write.
+// The answers in the order check, duel, repeat, mark, factors, suffixes, starts, write_letters, check_key, write_deposit,
+// write_key, key, write.
 pub fn brief(ring: &[u8], kind: u8, size: usize) {
     heading(ring, kind, size);
     plain(ring, kind);
     table(tables::Call::Factors, ring, kind, size);
     table(tables::Call::Suffixes, ring, kind, size);
     table(tables::Call::Starts, ring, kind, size);
+    write_letters(ring, kind, size);
+    as_key(ring, kind, size);
     key(keys::Call::Marks, ring, kind, size);
     key(keys::Call::Size, ring, kind, size);
     write(ring, kind, size);

@@ -7,46 +7,46 @@ use shown::named;
 use shown::text;
 
 // One more comparison on the line.
-fn with(kind: u8, first: &[u8], second: &[u8]) {
+fn with(first: &[u8], second: &[u8], kind: u8) {
     bar();
-    compared(ring::compare(kind, first, second));
+    compared(ring::compare(first, second, kind));
 }
 
 // One ring against ACG, GAC, AC, no letters, 8,193 letters, 8,192 letters, ACN and N.
-fn against(kind: u8, first: &[u8]) {
+fn against(first: &[u8], kind: u8) {
     let long = [b'A'; 8193];
     text(b"COMPARE");
     named(first);
     labelled(b" kind", kind as usize);
     text(b" with the eight\n");
-    compared(ring::compare(kind, first, b"ACG"));
-    with(kind, first, b"GAC");
-    with(kind, first, b"AC");
-    with(kind, first, b"");
-    with(kind, first, &long);
-    with(kind, first, &long[..8192]);
-    with(kind, first, b"ACN");
-    with(kind, first, b"N");
+    compared(ring::compare(first, b"ACG", kind));
+    with(first, b"GAC", kind);
+    with(first, b"AC", kind);
+    with(first, b"", kind);
+    with(first, &long, kind);
+    with(first, &long[..8192], kind);
+    with(first, b"ACN", kind);
+    with(first, b"N", kind);
     line();
 }
 
 pub fn refusals() {
-    against(1, b"ACG");
-    against(1, b"CGT");
-    against(1, b"");
-    against(1, b"ACN");
-    against(1, b"NAN");
-    against(0, b"ACG");
-    against(0, b"");
-    against(2, b"ACG");
-    against(2, b"");
+    against(b"ACG", 1);
+    against(b"CGT", 1);
+    against(b"", 1);
+    against(b"ACN", 1);
+    against(b"NAN", 1);
+    against(b"ACG", 0);
+    against(b"", 0);
+    against(b"ACG", 2);
+    against(b"", 2);
 }
 
 // The long rings as the first.
 pub fn long() {
     let ring = [b'A'; 8193];
-    against(1, &ring);
-    against(1, &ring[..8192]);
-    against(0, &ring);
-    against(2, &ring);
+    against(&ring, 1);
+    against(&ring[..8192], 1);
+    against(&ring, 0);
+    against(&ring, 2);
 }

@@ -7,6 +7,7 @@ use super::tables;
 use shown::labelled;
 use shown::letters;
 use shown::line;
+use shown::marked;
 use shown::text;
 
 // Short rings with room enough and too little, and none.
@@ -128,4 +129,19 @@ fn part_rooms() {
     key(keys::Call::Letters, b"TTGA", 0, 4, 0);
     key(keys::Call::Letters, b"TTGA", 0, 3, 4);
     key(keys::Call::Letters, b"TTGN", 1, 4, 4);
+}
+
+// A refused answer that a crate above makes.
+fn refusal(number: u8, place: usize) {
+    labelled(b"REFUSAL", number as usize);
+    labelled(b" at", place);
+    text(b" :");
+    marked(ring::refusal(number, place));
+    line();
+}
+
+pub fn refused() {
+    refusal(5, 0);
+    refusal(3, 8191);
+    refusal(255, 18446744073709551615);
 }

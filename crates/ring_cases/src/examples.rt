@@ -30,23 +30,23 @@ pub fn more() {
 // Rings that are one and rings that are not.
 pub fn pairs() {
     text(b"COMPARE kind 1\n");
-    compare(1, b"TTGA", b"TCAA");
-    compare(1, b"TTGA", b"AATC");
-    compare(1, b"TTGA", b"AGTT");
-    compare(1, b"ACGT", b"ACGT");
-    compare(1, b"ACGT", b"GTAC");
-    compare(1, b"AAAA", b"TTTT");
-    compare(1, b"ACAC", b"AACC");
-    compare(1, b"ACA", b"ACAC");
+    compare(b"TTGA", b"TCAA", 1);
+    compare(b"TTGA", b"AATC", 1);
+    compare(b"TTGA", b"AGTT", 1);
+    compare(b"ACGT", b"ACGT", 1);
+    compare(b"ACGT", b"GTAC", 1);
+    compare(b"AAAA", b"TTTT", 1);
+    compare(b"ACAC", b"AACC", 1);
+    compare(b"ACA", b"ACAC", 1);
     features();
 }
 
 // The same letters without an opposite strand.
 fn features() {
     text(b"COMPARE kind 0\n");
-    compare(0, b"TTGA", b"TCAA");
-    compare(0, b"TTGA", b"ATTG");
-    compare(0, b"AAAA", b"TTTT");
-    compare(0, b"\x00\xff", b"\xff\x00");
-    compare(0, b"\x00\xff", b"\x7f\x00");
+    compare(b"TTGA", b"TCAA", 0);
+    compare(b"TTGA", b"ATTG", 0);
+    compare(b"AAAA", b"TTTT", 0);
+    compare(b"\x00\xff", b"\xff\x00", 0);
+    compare(b"\x00\xff", b"\x7f\x00", 0);
 }

@@ -2,11 +2,13 @@
 mod brief;
 mod calls;
 mod comparison;
+mod deposits;
 mod edges;
 mod examples;
 mod keys;
-mod readings;
+mod letters;
 mod tables;
+mod turns;
 
 fn main() {
     examples::rows();
@@ -22,8 +24,12 @@ fn main() {
     edges::key_rooms();
     comparison::refusals();
     comparison::long();
-    readings::readings();
-    readings::bases();
-    readings::features();
-    readings::long();
+    letters::done();
+    letters::refusals();
+    deposits::bases();
+    deposits::features();
+    deposits::long();
+    deposits::deposits();
+    deposits::refusals();
+    edges::refused();
 }

@@ -33,7 +33,13 @@ same-length-3 : tie.Need-same-length-3
 same-length-3 c = search needs
 
 returns : tie.Need-returns
-returns c = (ap (λ (a : Marked). a .number) (c .before .before .before .before .before .before .before .before .before .before .before .before .before .before .before .before .before .write-key .ensures .0), key-told (keyPart _ _) _ _ _ _ _ _ _ _ _ (c .before .before .tell .ensures) (c .before .before .before .before .before .before .before .before .before .before .before .before .before .before .before .before .before .write-key .ensures .0) (c .before .before .before .before .before .before .before .before .before .before .key .ensures .0) (c .before .before .before .before .before .before .before .before .before .before .before .before .before .before .before .before .before .write-key .kept .1 .1 .0) (c .before .before .before .before .before .before .before .before .before .before .before .before .before .before .before .before .before .write-key .kept .1 .1 .1 .0))
+returns c =
+    let w : tie.After-write-key = search needs in
+    let k : tie.After-key = search needs in
+    let t : tie.After-tell = search needs in
+    let a = w .write-key .ensures .0 in
+    let kept = w .write-key .kept .1 .1 in
+    (ap (λ (m : Marked). m .number) a, key-told (keyPart _ _) _ _ _ _ _ _ _ _ _ (t .tell .ensures) a (k .key .ensures .0) (kept .0) (kept .1 .0))
 
 pub probe-key-spec : {M : Type 1} → statement M
 probe-key-spec =

@@ -7,14 +7,8 @@ use Rattle.probe.proofs.keys.probe_mark.Tie as tie
 mark-requires : tie.Need-mark-requires
 mark-requires c κs = search needs
 
-cast-t12 : tie.Need-cast-t12
-cast-t12 c = search needs
-
-slice-aggregate-tell : tie.Need-slice-aggregate-tell
-slice-aggregate-tell c = search needs
-
-tell-requires : tie.Need-tell-requires
-tell-requires c κs = search needs
+marks-requires : tie.Need-marks-requires
+marks-requires c κs = search needs
 
 same-length : tie.Need-same-length
 same-length c = search needs
@@ -23,6 +17,4 @@ returns : tie.Need-returns
 returns c = (cc, cc)
 
 pub probe-mark-spec : {M : Type 1} → statement M
-probe-mark-spec =
-    tie.close
-    (tie.spec mark-requires cast-t12 slice-aggregate-tell tell-requires same-length returns)
+probe-mark-spec = tie.close (tie.spec mark-requires marks-requires same-length returns)

@@ -7,14 +7,8 @@ use Rattle.probe.proofs.sheets.probe_sheet_write.Tie as tie
 write-requires : tie.Need-write-requires
 write-requires c κs = search needs
 
-cast-t15 : tie.Need-cast-t15
-cast-t15 c = search needs
-
-slice-aggregate-tell : tie.Need-slice-aggregate-tell
-slice-aggregate-tell c = search needs
-
-tell-requires : tie.Need-tell-requires
-tell-requires c κs = search needs
+marks-requires : tie.Need-marks-requires
+marks-requires c κs = search needs
 
 same-length : tie.Need-same-length
 same-length c = search needs
@@ -27,12 +21,4 @@ returns c = (cc, (cc, cc))
 
 pub probe-sheet-write-spec : {M : Type 1} → statement M
 probe-sheet-write-spec =
-    tie.close
-    (tie.spec
-    write-requires
-    cast-t15
-    slice-aggregate-tell
-    tell-requires
-    same-length
-    same-length-2
-    returns)
+    tie.close (tie.spec write-requires marks-requires same-length same-length-2 returns)

@@ -3,8 +3,8 @@
 use borrow.Author.Needs.{needs}
 use Rattle.ring.proofs.Marks.{found-within}
 use mathlib.Core.Path.{sym, ap, _∙_}
-use Rattle.words.specs.Ring.{reading, lowest}
-use Rattle.words.specs.Strand.{opposite}
+use Rattle.words.specs.rings.Ring.{reading, lowest}
+use Rattle.words.specs.keys.Strand.{opposite}
 use Rattle.ring.specs.Answers.{equal}
 use Rattle.ring.proofs.Compared.{same-length, same-own, same-plain, same-other, read-same, read-differ}
 use Rattle.ring.proofs.comparison.same_key.Statement.{statement}

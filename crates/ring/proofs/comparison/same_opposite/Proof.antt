@@ -2,7 +2,7 @@
 -- Assumes nothing.
 use mathlib.Core.Path.{_∙_}
 use borrow.Author.Needs.{needs}
-use Rattle.words.specs.Ring.{lowest}
+use Rattle.words.specs.rings.Ring.{lowest}
 use Rattle.ring.proofs.Marks.{found-within}
 use Rattle.ring.proofs.comparison.same_opposite.Statement.{statement}
 use Rattle.ring.proofs.comparison.same_opposite.Tie as tie

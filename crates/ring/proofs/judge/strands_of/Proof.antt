@@ -1,7 +1,7 @@
 -- `ring::judge::strands_of` meets its contract.
 -- Assumes nothing.
 use mathlib.Core.Path.{sym, _∙_}
-use Rattle.words.proofs.Kind.{strands-none, strands-both, strands-own}
+use Rattle.words.proofs.keys.Kind.{strands-none, strands-both, strands-own}
 use borrow.Author.Needs.{needs}
 use borrow.Author.Tests.{not-true, not-false}
 use Rattle.ring.proofs.judge.strands_of.Statement.{statement}

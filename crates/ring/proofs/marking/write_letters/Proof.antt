@@ -4,7 +4,7 @@ use borrow.Author.Needs.{needs}
 use mathlib.Core.Path.{sym, _∙_}
 use native.Mathlib.Omega.{arith}
 use borrow.Author.Tests.{ltb-false}
-use Rattle.words.specs.Strand.{key}
+use Rattle.words.specs.keys.Strand.{key}
 use Rattle.ring.proofs.Judging.{not-taken}
 use Rattle.ring.proofs.Exactly.{taken-permitted}
 use Rattle.ring.proofs.Marks.{by-refused, marked-done, marked-start, marked-key, room-refused, room-done}

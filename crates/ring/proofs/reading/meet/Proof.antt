@@ -4,8 +4,8 @@ use mathlib.Core.Path.{sym, _∙_}
 use Prim.Native.Nat.{_≤_, _-_}
 use borrow.Author.Needs.{needs}
 use borrow.Author.Count.{below-more}
-use Rattle.words.specs.Paired.{Paired}
-use Rattle.words.specs.Strand.{onStrand}
+use Rattle.words.specs.duels.Paired.{Paired}
+use Rattle.words.specs.keys.Strand.{onStrand}
 use Rattle.ring.proofs.OnStrand.{met-all, met-differs}
 use Rattle.ring.proofs.reading.meet.Statement.{statement}
 use Rattle.ring.proofs.reading.meet.Tie as tie

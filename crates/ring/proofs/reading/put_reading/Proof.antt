@@ -3,9 +3,9 @@
 use borrow.Author.Needs.{needs}
 use native.Mathlib.Omega.{arith}
 use lib.ListN.{take, drop, length-drop, length-take}
-use Rattle.words.specs.Ring.{reading}
-use Rattle.words.specs.Strand.{onStrand}
-use Rattle.words.proofs.Strand.{length-strand}
+use Rattle.words.specs.rings.Ring.{reading}
+use Rattle.words.specs.keys.Strand.{onStrand}
+use Rattle.words.proofs.keys.Strand.{length-strand}
 use Rattle.ring.proofs.Laid.{over-two}
 use Rattle.ring.proofs.OnStrand.{length-back, length-front}
 use Rattle.ring.proofs.reading.put_reading.Statement.{statement}

@@ -5,11 +5,11 @@ use Prim.Native.Nat.{_+_, _≤_, _-_}
 use mathlib.Core.Path.{_≡_}
 use native.Mathlib.Omega.{arith}
 use lib.ListN.{length, drop, length-drop}
-use Rattle.words.specs.Factor.{FirstRun}
-use Rattle.words.specs.Strand.{onStrand}
-use Rattle.words.proofs.Factor.{run-within, run-word, run-size}
-use Rattle.words.proofs.Run.{Best, best-none, best-next, best-last, best-below}
-use Rattle.words.proofs.Strand.{length-strand}
+use Rattle.words.specs.factors.Factor.{FirstRun}
+use Rattle.words.specs.keys.Strand.{onStrand}
+use Rattle.words.proofs.factors.Factor.{run-within, run-word, run-size}
+use Rattle.words.proofs.factors.Run.{Best, best-none, best-next, best-last, best-below}
+use Rattle.words.proofs.keys.Strand.{length-strand}
 use Rattle.ring.proofs.OnStrand.{length-back}
 use Rattle.ring.proofs.start.start_of.Statement.{statement}
 use Rattle.ring.proofs.start.start_of.Tie as tie

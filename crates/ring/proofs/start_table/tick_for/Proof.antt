@@ -1,11 +1,11 @@
--- `start_table::tick_for` meets its contract: each way out is one of the tests of `Rattle.words.proofs.StartTick`.
+-- `start_table::tick_for` meets its contract: each way out is one of the tests of `Rattle.words.proofs.starts.StartTick`.
 -- Assumes nothing.
 use mathlib.Core.Path.{sym}
 use Prim.Native.Nat.{_+_, _-_}
 use native.Mathlib.Omega.{arith}
 use borrow.Author.Needs.{needs}
 use lib.ListN.{getD}
-use Rattle.words.proofs.StartTick.{untick-le, judged-far, judged-far-not, judged-whole, judged-reach, judged-low, judged-high}
+use Rattle.words.proofs.starts.StartTick.{untick-le, judged-far, judged-far-not, judged-whole, judged-reach, judged-low, judged-high}
 use Rattle.ring.specs.Judging.{most}
 use Rattle.ring.proofs.start_table.tick_for.Statement.{statement}
 use Rattle.ring.proofs.start_table.tick_for.Tie as tie

@@ -2,7 +2,7 @@
 -- Assumes nothing.
 use mathlib.Core.Path.{sym}
 use borrow.Author.Needs.{needs}
-use Rattle.words.proofs.StartTick.{untick-high, untick-low}
+use Rattle.words.proofs.starts.StartTick.{untick-high, untick-low}
 use Rattle.ring.specs.Judging.{most}
 use Rattle.ring.proofs.start_table.unticked.Statement.{statement}
 use Rattle.ring.proofs.start_table.unticked.Tie as tie

@@ -4,8 +4,8 @@ use borrow.Author.Needs.{needs}
 use Prim.Native.Nat.{_-_}
 use mathlib.Core.Path.{_≡_}
 use lib.ListN.{length}
-use Rattle.words.specs.Strand.{onStrand}
-use Rattle.words.proofs.Strand.{length-strand}
+use Rattle.words.specs.keys.Strand.{onStrand}
+use Rattle.words.proofs.keys.Strand.{length-strand}
 use Rattle.ring.proofs.Laid.{Partly, partly-none, partly-one, partly-all}
 use Rattle.ring.proofs.strand.copy.Statement.{statement}
 use Rattle.ring.proofs.strand.copy.Tie as tie

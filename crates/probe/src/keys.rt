@@ -2,7 +2,7 @@
 ghost use mathlib.Core.Path.{_≡_};
 ghost use mathlib.Core.Bool.{cond};
 ghost use lib.ListN.{length};
-ghost use Rattle.words.specs.Kind.{strands};
+ghost use Rattle.words.specs.keys.Kind.{strands};
 ghost use Rattle.ring.specs.Answers.{markedOf, refusalOf, letteredOf, letteredRoom, keyedOf, firstRoom, secondRoom, keyPart, comparedOf};
 ghost use Rattle.probe.specs.Told.{told, markedFields, comparedFields, keyFields};
 use super::tell;

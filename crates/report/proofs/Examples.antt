@@ -3,13 +3,13 @@
 use mathlib.Core.Path.{_≡_, refl}
 use mathlib.Core.List.{List, [], _∷_}
 use Prim.Native.Nat.{ℕ}
-use Rattle.words.specs.Kind.{stranded}
-use Rattle.words.specs.Ring.{reading, around, start, lowest}
-use Rattle.words.specs.Strand.{opposite, strand, keyStart, key}
-use Rattle.words.specs.Factor.{longest, factors, factorTable}
-use Rattle.words.specs.Prefix.{leastSuffix, suffixTable, startTable}
-use Rattle.words.specs.Repeat.{repeat}
-use Rattle.words.specs.Duel.{duels, pairs, meet, forward, lower, upper}
+use Rattle.words.specs.keys.Kind.{stranded}
+use Rattle.words.specs.rings.Ring.{reading, around, start, lowest}
+use Rattle.words.specs.keys.Strand.{opposite, strand, keyStart, key}
+use Rattle.words.specs.factors.Factor.{longest, factors, factorTable}
+use Rattle.words.specs.suffixes.Prefix.{leastSuffix, suffixTable, startTable}
+use Rattle.words.specs.repeats.Repeat.{repeat}
+use Rattle.words.specs.duels.Duel.{duels, pairs, meet, forward, lower, upper}
 use Rattle.ring.specs.Judging.{verdict}
 use Rattle.report.specs.Decimal.{decimal}
 use Rattle.report.specs.Report.{headLine, factorLine, suffixLine, startLine, keyLine, fiveLines, reportOf}

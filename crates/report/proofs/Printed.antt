@@ -8,7 +8,7 @@ use native.Mathlib.Omega.{arith}
 use borrow.Author.Tests.{eq-eqb, le-ltb}
 use borrow.Rule.Slice.PartMut.{putMid}
 use lib.ListN.{length, take, drop, set, length-append}
-use Rattle.words.specs.Strand.{strand, keyStart, key}
+use Rattle.words.specs.keys.Strand.{strand, keyStart, key}
 use Rattle.ring.specs.Judging.{most, verdict, numberOf, placeOf, over, Given, unknown, none, many, letter, lacking, done}
 use Rattle.ring.proofs.Laid.{Laid, laid-one, laid-part, laid-size}
 use Rattle.ring.proofs.Exactly.{given}

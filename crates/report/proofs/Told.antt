@@ -8,16 +8,16 @@ use native.Mathlib.Omega.{arith}
 use lib.Dec.{eqb}
 use lib.ListN.{length, take, getD}
 use lib.Seq.{take-append-seam}
-use Rattle.words.specs.Ring.{start}
-use Rattle.words.specs.Strand.{strand, keyStart}
-use Rattle.words.specs.Factor.{factorTable}
-use Rattle.words.specs.Repeat.{repeat}
-use Rattle.words.specs.Duel.{startOf, pairs}
-use Rattle.words.proofs.Search.{by-test}
-use Rattle.words.proofs.Ring.{start-is}
+use Rattle.words.specs.rings.Ring.{start}
+use Rattle.words.specs.keys.Strand.{strand, keyStart}
+use Rattle.words.specs.factors.Factor.{factorTable}
+use Rattle.words.specs.repeats.Repeat.{repeat}
+use Rattle.words.specs.duels.Duel.{startOf, pairs}
+use Rattle.words.proofs.order.Search.{by-test}
+use Rattle.words.proofs.rings.Ring.{start-is}
 use Rattle.report.specs.Report.{longest, Printable, kept}
-use Rattle.words.proofs.Repeat.{repeat-is}
-use Rattle.words.proofs.Pairs.{duels-end, pairs-three}
+use Rattle.words.proofs.repeats.Repeat.{repeat-is}
+use Rattle.words.proofs.duels.Pairs.{duels-end, pairs-three}
 use Rattle.ring.specs.declared.judge.Verdict.the-variants.{Taken}
 use Rattle.ring.specs.declared.answer.Factored.{Factored}
 use Rattle.ring.specs.declared.answer.Fought.{Fought}

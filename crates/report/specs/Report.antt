@@ -5,12 +5,12 @@ use mathlib.Core.List.{List, [], _∷_, _++_}
 use Prim.Native.Nat.{ℕ, _+_, _-_, _≤_}
 use lib.Dec.{ltb, eqb}
 use lib.ListN.{length, take, getD}
-use Rattle.words.specs.Ring.{start}
-use Rattle.words.specs.Strand.{strand, keyStart, key}
-use Rattle.words.specs.Factor.{factorTable}
-use Rattle.words.specs.Prefix.{suffixTable, startTable}
-use Rattle.words.specs.Repeat.{repeat}
-use Rattle.words.specs.Duel.{pairs}
+use Rattle.words.specs.rings.Ring.{start}
+use Rattle.words.specs.keys.Strand.{strand, keyStart, key}
+use Rattle.words.specs.factors.Factor.{factorTable}
+use Rattle.words.specs.suffixes.Prefix.{suffixTable, startTable}
+use Rattle.words.specs.repeats.Repeat.{repeat}
+use Rattle.words.specs.duels.Duel.{pairs}
 use Rattle.ring.specs.declared.judge.Verdict.{Verdict}
 use Rattle.ring.specs.Judging.{Permitted, verdict, taken, numberOf, placeOf, over}
 use Rattle.report.specs.Decimal.{row, rowRoom}

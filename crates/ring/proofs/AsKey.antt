@@ -8,7 +8,7 @@ use Prim.Native.Nat.{ℕ, _≤_}
 use native.Mathlib.Omega.{arith}
 use lib.ListN.{length}
 use borrow.Author.Tests.{eq-eqb, ne-eqb}
-use Rattle.words.proofs.Search.{by-test, either, lt-or-ge}
+use Rattle.words.proofs.order.Search.{by-test, either, lt-or-ge}
 use Rattle.ring.specs.declared.judge.Verdict.{Verdict}
 use Rattle.ring.specs.declared.judge.Verdict.the-variants.{Taken, Short, NotKey}
 use Rattle.ring.specs.Rule.{Rule, rule}

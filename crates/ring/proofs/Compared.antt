@@ -8,13 +8,13 @@ use Prim.Native.Nat.{ℕ, _<_}
 use native.Mathlib.Omega.{arith}
 use borrow.Author.Tests.{eq-eqb}
 use lib.ListN.{length}
-use Rattle.words.specs.Kind.{known, stranded}
-use Rattle.words.specs.Ring.{reading, start, lowest}
-use Rattle.words.specs.Strand.{opposite, onStrand, strand, key, OneRing}
-use Rattle.words.proofs.Search.{either, by-test}
-use Rattle.words.proofs.Strand.{length-strand}
-use Rattle.words.proofs.TurnBack.{length-lowest}
-use Rattle.words.proofs.Molecule.{one-key, one-ring, one-lowest, lowest-one}
+use Rattle.words.specs.keys.Kind.{known, stranded}
+use Rattle.words.specs.rings.Ring.{reading, start, lowest}
+use Rattle.words.specs.keys.Strand.{opposite, onStrand, strand, key, OneRing}
+use Rattle.words.proofs.order.Search.{either, by-test}
+use Rattle.words.proofs.keys.Strand.{length-strand}
+use Rattle.words.proofs.keys.TurnBack.{length-lowest}
+use Rattle.words.proofs.keys.Molecule.{one-key, one-ring, one-lowest, lowest-one}
 use Rattle.ring.specs.declared.judge.Verdict.{Verdict}
 use Rattle.ring.specs.declared.judge.Verdict.the-variants.{Taken}
 use Rattle.ring.specs.declared.answer.Compared.{Compared}

@@ -11,18 +11,18 @@ use borrow.Author.Tests.{eq-eqb}
 use lib.Dec.{eqb}
 use lib.ListN.{length, take, getD}
 use lib.Seq.{take-at}
-use Rattle.words.specs.Kind.{stranded}
-use Rattle.words.specs.Ring.{IsStart, start, lowest}
-use Rattle.words.specs.Strand.{opposite, key}
-use Rattle.words.specs.Factor.{factorTable}
-use Rattle.words.specs.Prefix.{IsLeastSuffix, leastSuffix, suffixTable, startTable}
-use Rattle.words.specs.Repeat.{IsRepeat}
-use Rattle.words.specs.Duel.{duels, pairs}
-use Rattle.words.proofs.Search.{by-test}
-use Rattle.words.proofs.Ring.{start-is}
-use Rattle.words.proofs.Repeat.{repeat-is, repeat-one}
-use Rattle.words.proofs.Runs.{table-few}
-use Rattle.words.proofs.Prefix.{leastSuffix-is, length-suffixTable, suffixTable-at, length-startTable, startTable-at}
+use Rattle.words.specs.keys.Kind.{stranded}
+use Rattle.words.specs.rings.Ring.{IsStart, start, lowest}
+use Rattle.words.specs.keys.Strand.{opposite, key}
+use Rattle.words.specs.factors.Factor.{factorTable}
+use Rattle.words.specs.suffixes.Prefix.{IsLeastSuffix, leastSuffix, suffixTable, startTable}
+use Rattle.words.specs.repeats.Repeat.{IsRepeat}
+use Rattle.words.specs.duels.Duel.{duels, pairs}
+use Rattle.words.proofs.order.Search.{by-test}
+use Rattle.words.proofs.rings.Ring.{start-is}
+use Rattle.words.proofs.repeats.Repeat.{repeat-is, repeat-one}
+use Rattle.words.proofs.factors.Runs.{table-few}
+use Rattle.words.proofs.suffixes.Prefix.{leastSuffix-is, length-suffixTable, suffixTable-at, length-startTable, startTable-at}
 use Rattle.ring.specs.declared.judge.Verdict.{Verdict}
 use Rattle.ring.specs.declared.answer.Checked.{Checked}
 use Rattle.ring.specs.declared.answer.Factored.{Factored}

@@ -7,9 +7,9 @@ use Prim.Native.Nat.{ℕ, _≤_, _<_, _-_}
 use native.Mathlib.Omega.{arith}
 use borrow.Author.Tests.{eq-eqb, ne-eqb}
 use lib.ListN.{length}
-use Rattle.words.specs.Ring.{reading, start}
-use Rattle.words.specs.Strand.{opposite, onStrand, strand, keyStart, key}
-use Rattle.words.proofs.Strand.{opposite-reading}
+use Rattle.words.specs.rings.Ring.{reading, start}
+use Rattle.words.specs.keys.Strand.{opposite, onStrand, strand, keyStart, key}
+use Rattle.words.proofs.keys.Strand.{opposite-reading}
 use Rattle.ring.specs.Judging.{Permitted}
 use Rattle.ring.specs.Answers.{IsKey, deposit, isKey}
 use Rattle.ring.proofs.Permits.{permitted-lowest, permitted-strand}

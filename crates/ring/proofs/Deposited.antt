@@ -6,7 +6,7 @@ use mathlib.Core.List.{List, [], _∷_}
 use Prim.Native.Nat.{ℕ, _<_}
 use lib.ListN.{length, take}
 use lib.Seq.{take-at}
-use Rattle.words.specs.Strand.{strand, keyStart, key}
+use Rattle.words.specs.keys.Strand.{strand, keyStart, key}
 use Rattle.ring.specs.declared.judge.Verdict.{Verdict}
 use Rattle.ring.specs.declared.judge.Verdict.the-variants.{Taken}
 use Rattle.ring.specs.Judging.{Permitted, numberOf, placeOf, taken, field}

@@ -8,9 +8,9 @@ use borrow.Author.Tests.{eq-eqb}
 use lib.ListN.{length, take, drop, getD, length-take, List·getD-append}
 use lib.Seq.{take-at}
 use Rattle.ring.specs.declared.judge.Verdict.{Verdict}
-use Rattle.words.specs.Factor.{factors, factorTable}
-use Rattle.words.proofs.Factor.{factors-are, factors-one}
-use Rattle.words.proofs.Runs.{length-factorTable, table-ascends}
+use Rattle.words.specs.factors.Factor.{factors, factorTable}
+use Rattle.words.proofs.factors.Factor.{factors-are, factors-one}
+use Rattle.words.proofs.factors.Runs.{length-factorTable, table-ascends}
 use Rattle.ring.specs.Judging.{numberOf, verdict, after}
 use Rattle.ring.specs.Answers.{fewer, factoredOf, factoredTable}
 use Rattle.ring.specs.Demands.{Divided}

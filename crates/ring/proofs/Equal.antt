@@ -8,10 +8,10 @@ use native.Mathlib.Omega.{arith}
 use borrow.Author.Tests.{eq-eqb, ne-eqb, eqb-true}
 use lib.Dec.{eqb}
 use lib.ListN.{length}
-use Rattle.words.specs.Ring.{reading}
-use Rattle.words.specs.Paired.{Met}
-use Rattle.words.proofs.Paired.{same-at, differ-at}
-use Rattle.words.proofs.Search.{by-test, both-true}
+use Rattle.words.specs.rings.Ring.{reading}
+use Rattle.words.specs.duels.Paired.{Met}
+use Rattle.words.proofs.duels.Paired.{same-at, differ-at}
+use Rattle.words.proofs.order.Search.{by-test, both-true}
 use Rattle.ring.specs.Answers.{equal}
 
 equal-self : (u : List ℕ) → equal u u ≡ true

@@ -7,8 +7,8 @@ use Prim.Native.Nat.{ℕ, zero, suc, _≤_, _<_}
 use native.Mathlib.Omega.{arith}
 use borrow.Author.Tests.{eqb-true, le-ltb}
 use lib.ListN.{length, getD}
-use Rattle.words.specs.Kind.{known, isLetter}
-use Rattle.words.proofs.Search.{by-test, either, lt-or-ge}
+use Rattle.words.specs.keys.Kind.{known, isLetter}
+use Rattle.words.proofs.order.Search.{by-test, either, lt-or-ge}
 use Rattle.ring.specs.declared.judge.Verdict.{Verdict}
 use Rattle.ring.specs.declared.judge.Verdict.the-variants.{Taken, Kind, Empty, Long, Letter, Short, NotKey}
 use Rattle.ring.specs.Judging.{most, firstBad, Permitted, numberOf, placeOf, taken, verdict, Given, unknown, none, many, letter, lacking, done}

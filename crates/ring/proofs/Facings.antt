@@ -3,8 +3,8 @@
 use mathlib.Core.Path.{_≡_}
 use Prim.Native.Nat.{ℕ, _<_}
 use lib.ListN.{getD}
-use Rattle.words.specs.Kind.{facing}
-use Rattle.words.proofs.Search.{tabled-at}
+use Rattle.words.specs.keys.Kind.{facing}
+use Rattle.words.proofs.order.Search.{tabled-at}
 use Rattle.ring.specs.Facings.{facingTable}
 
 pub facing-at : (a : ℕ) → a < 256 → getD facingTable a 0 ≡ facing a

@@ -9,16 +9,16 @@ use native.Mathlib.Nat.{eq-or-lt-of-le}
 use borrow.Author.Tests.{eq-eqb, eqb-true, not-true}
 use lib.Dec.{eqb}
 use lib.ListN.{length}
-use Rattle.words.specs.Order.{before}
-use Rattle.words.specs.Kind.{stranded}
-use Rattle.words.specs.Ring.{reading, start, lowest}
-use Rattle.words.specs.Strand.{opposite, onStrand, strand, keyStart, key}
-use Rattle.words.specs.Repeat.{ringRepeat}
-use Rattle.words.proofs.Search.{either, by-test}
-use Rattle.words.proofs.Ring.{start-is}
-use Rattle.words.proofs.Turn.{length-reading, reading-back}
-use Rattle.words.proofs.Strand.{opposite-twice, length-opposite, length-strand, strand-twice}
-use Rattle.words.proofs.TurnBack.{start-of-lowest, start-low, lowest-opposite, start-back, lowest-back}
+use Rattle.words.specs.order.Order.{before}
+use Rattle.words.specs.keys.Kind.{stranded}
+use Rattle.words.specs.rings.Ring.{reading, start, lowest}
+use Rattle.words.specs.keys.Strand.{opposite, onStrand, strand, keyStart, key}
+use Rattle.words.specs.repeats.Repeat.{ringRepeat}
+use Rattle.words.proofs.order.Search.{either, by-test}
+use Rattle.words.proofs.rings.Ring.{start-is}
+use Rattle.words.proofs.rings.Turn.{length-reading, reading-back}
+use Rattle.words.proofs.keys.Strand.{opposite-twice, length-opposite, length-strand, strand-twice}
+use Rattle.words.proofs.keys.TurnBack.{start-of-lowest, start-low, lowest-opposite, start-back, lowest-back}
 use Rattle.ring.specs.Judging.{Permitted, verdict, taken}
 use Rattle.ring.specs.Strands.{leftTo}
 use Rattle.ring.specs.Answers.{equal, IsKey, deposit, isKey}

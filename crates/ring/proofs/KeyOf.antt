@@ -8,15 +8,15 @@ use Prim.Native.Nat.{ℕ, _≤_, _<_}
 use native.Mathlib.Omega.{arith}
 use native.Mathlib.Nat.{eq-or-lt-of-le}
 use lib.ListN.{length}
-use Rattle.words.specs.Order.{_≺_, _≼_, before}
-use Rattle.words.specs.Kind.{stranded}
-use Rattle.words.specs.Ring.{reading, start, lowest}
-use Rattle.words.specs.Strand.{opposite, onStrand, strand, keyStart, key}
-use Rattle.words.proofs.Order.{before-true, before-less, before-no, lt-le, lt-of-lt-le, le-trans}
-use Rattle.words.proofs.Search.{by-test, either}
-use Rattle.words.proofs.Ring.{start-is, start-one}
-use Rattle.words.proofs.Strand.{length-opposite, length-strand}
-use Rattle.words.proofs.Molecule.{key-plain, key-lesser}
+use Rattle.words.specs.order.Order.{_≺_, _≼_, before}
+use Rattle.words.specs.keys.Kind.{stranded}
+use Rattle.words.specs.rings.Ring.{reading, start, lowest}
+use Rattle.words.specs.keys.Strand.{opposite, onStrand, strand, keyStart, key}
+use Rattle.words.proofs.order.Order.{before-true, before-less, before-no, lt-le, lt-of-lt-le, le-trans}
+use Rattle.words.proofs.order.Search.{by-test, either}
+use Rattle.words.proofs.rings.Ring.{start-is, start-one}
+use Rattle.words.proofs.keys.Strand.{length-opposite, length-strand}
+use Rattle.words.proofs.keys.Molecule.{key-plain, key-lesser}
 use Rattle.ring.specs.Demands.{KeyOf}
 
 -- the lowest reading is no greater than any

@@ -8,12 +8,12 @@ use native.Mathlib.Omega.{arith}
 use borrow.Author.Tests.{eq-eqb, ne-eqb}
 use lib.ListN.{length, take, drop}
 use lib.Seq.{take-at}
-use Rattle.words.specs.Kind.{stranded}
-use Rattle.words.specs.Ring.{lowest}
-use Rattle.words.specs.Strand.{opposite, strand, keyStart, key}
-use Rattle.words.proofs.Search.{by-test}
-use Rattle.words.proofs.TurnBack.{length-lowest}
-use Rattle.words.proofs.Strand.{length-opposite}
+use Rattle.words.specs.keys.Kind.{stranded}
+use Rattle.words.specs.rings.Ring.{lowest}
+use Rattle.words.specs.keys.Strand.{opposite, strand, keyStart, key}
+use Rattle.words.proofs.order.Search.{by-test}
+use Rattle.words.proofs.keys.TurnBack.{length-lowest}
+use Rattle.words.proofs.keys.Strand.{length-opposite}
 use Rattle.ring.specs.declared.judge.Verdict.{Verdict}
 use Rattle.ring.specs.declared.answer.Marked.{Marked}
 use Rattle.ring.specs.Judging.{Permitted, done, numberOf, taken, field, over, after}

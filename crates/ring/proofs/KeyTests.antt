@@ -8,12 +8,12 @@ use native.Mathlib.Omega.{arith}
 use borrow.Author.Tests.{eqb-true, eqb-false}
 use lib.Dec.{eqb}
 use lib.ListN.{length}
-use Rattle.words.specs.Kind.{stranded}
-use Rattle.words.specs.Factor.{FirstRun}
-use Rattle.words.specs.Repeat.{ringRepeat}
-use Rattle.words.proofs.Search.{by-test}
-use Rattle.words.proofs.Factor.{run-within}
-use Rattle.words.proofs.Necklace.{run-start, run-more, run-repeat}
+use Rattle.words.specs.keys.Kind.{stranded}
+use Rattle.words.specs.factors.Factor.{FirstRun}
+use Rattle.words.specs.repeats.Repeat.{ringRepeat}
+use Rattle.words.proofs.order.Search.{by-test}
+use Rattle.words.proofs.factors.Factor.{run-within}
+use Rattle.words.proofs.keys.Necklace.{run-start, run-more, run-repeat}
 use Rattle.ring.specs.Judging.{Permitted}
 use Rattle.ring.specs.Strands.{leftTo}
 use Rattle.ring.specs.Answers.{isKey}

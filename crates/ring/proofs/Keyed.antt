@@ -8,12 +8,12 @@ use native.Mathlib.Omega.{arith}
 use borrow.Author.Tests.{ltb-false}
 use lib.Dec.{ltb}
 use lib.ListN.{length, drop}
-use Rattle.words.specs.Kind.{stranded}
-use Rattle.words.specs.Ring.{reading, start, lowest}
-use Rattle.words.specs.Strand.{opposite, strand, keyStart}
-use Rattle.words.proofs.Search.{by-test, neither}
-use Rattle.words.proofs.Strand.{length-opposite}
-use Rattle.words.proofs.TurnBack.{length-lowest}
+use Rattle.words.specs.keys.Kind.{stranded}
+use Rattle.words.specs.rings.Ring.{reading, start, lowest}
+use Rattle.words.specs.keys.Strand.{opposite, strand, keyStart}
+use Rattle.words.proofs.order.Search.{by-test, neither}
+use Rattle.words.proofs.keys.Strand.{length-opposite}
+use Rattle.words.proofs.keys.TurnBack.{length-lowest}
 use Rattle.ring.specs.declared.judge.Verdict.{Verdict}
 use Rattle.ring.specs.declared.judge.Verdict.the-variants.{Taken}
 use Rattle.ring.specs.declared.answer.Marked.{Marked}

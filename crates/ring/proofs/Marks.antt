@@ -7,14 +7,14 @@ use Prim.Native.Nat.{ℕ, _<_}
 use native.Mathlib.Omega.{arith}
 use lib.ListN.{length}
 use borrow.Author.Tests.{eq-eqb, ne-eqb}
-use Rattle.words.specs.Order.{before}
-use Rattle.words.specs.Kind.{stranded}
-use Rattle.words.specs.Ring.{reading, start, lowest}
-use Rattle.words.specs.Strand.{opposite, onStrand, strand, keyStart, key}
-use Rattle.words.proofs.Search.{by-test}
-use Rattle.words.proofs.Ring.{start-is}
-use Rattle.words.proofs.Turn.{reading-zero}
-use Rattle.words.proofs.Strand.{length-strand}
+use Rattle.words.specs.order.Order.{before}
+use Rattle.words.specs.keys.Kind.{stranded}
+use Rattle.words.specs.rings.Ring.{reading, start, lowest}
+use Rattle.words.specs.keys.Strand.{opposite, onStrand, strand, keyStart, key}
+use Rattle.words.proofs.order.Search.{by-test}
+use Rattle.words.proofs.rings.Ring.{start-is}
+use Rattle.words.proofs.rings.Turn.{reading-zero}
+use Rattle.words.proofs.keys.Strand.{length-strand}
 use Rattle.ring.specs.declared.judge.Verdict.{Verdict}
 use Rattle.ring.specs.declared.judge.Verdict.the-variants.{Taken}
 use Rattle.ring.specs.declared.answer.Marked.{Marked}

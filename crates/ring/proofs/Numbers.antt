@@ -10,8 +10,8 @@ use borrow.Author.Tests.{lt-ltb, ltb-true, ltb-false, eq-eqb, ne-eqb}
 use lib.Dec.{ltb}
 use lib.ListN.{length, drop, length-append, length-drop}
 use lib.Seq.{drop-at}
-use Rattle.words.specs.Kind.{stranded}
-use Rattle.words.proofs.Search.{by-test, either}
+use Rattle.words.specs.keys.Kind.{stranded}
+use Rattle.words.proofs.order.Search.{by-test, either}
 use Rattle.ring.specs.declared.judge.Verdict.{Verdict}
 use Rattle.ring.specs.Judging.{Permitted, firstBad, numberOf, placeOf, taken, verdict, after, Given, unknown, none, many, letter, lacking, done}
 use Rattle.ring.specs.Answers.{fewer, roomsShort}

@@ -9,15 +9,15 @@ use borrow.Author.Tests.{eq-eqb, ne-eqb}
 use lib.Dec.{ltb, eqb}
 use lib.ListN.{length, take, drop, getD, length-drop, length-take, take-append-drop}
 use lib.Seq.{take-at, drop-at, take-all}
-use Rattle.words.specs.Kind.{facing}
-use Rattle.words.specs.Order.{before}
-use Rattle.words.specs.Ring.{reading, around}
-use Rattle.words.specs.Paired.{Paired, Met}
-use Rattle.words.specs.Strand.{opposite, onStrand}
-use Rattle.words.proofs.Search.{by-test}
-use Rattle.words.proofs.Paired.{before-at, before-same}
-use Rattle.words.proofs.Strand.{facing-twice, length-opposite, length-strand, opposite-at, opposite-append}
-use Rattle.words.proofs.Turn.{around-in, around-out}
+use Rattle.words.specs.keys.Kind.{facing}
+use Rattle.words.specs.order.Order.{before}
+use Rattle.words.specs.rings.Ring.{reading, around}
+use Rattle.words.specs.duels.Paired.{Paired, Met}
+use Rattle.words.specs.keys.Strand.{opposite, onStrand}
+use Rattle.words.proofs.order.Search.{by-test}
+use Rattle.words.proofs.duels.Paired.{before-at, before-same}
+use Rattle.words.proofs.keys.Strand.{facing-twice, length-opposite, length-strand, opposite-at, opposite-append}
+use Rattle.words.proofs.rings.Turn.{around-in, around-out}
 use Rattle.ring.specs.OnStrand.{placeOn, shownOn}
 use Rattle.ring.specs.Answers.{equal}
 use Rattle.ring.proofs.Equal.{equal-met}

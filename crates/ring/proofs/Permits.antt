@@ -9,13 +9,13 @@ use native.Mathlib.Nat.{mod-lt}
 use borrow.Author.Tests.{eqb-true}
 use lib.Dec.{eqb}
 use lib.ListN.{length, getD}
-use Rattle.words.specs.Kind.{isLetter, facing}
-use Rattle.words.specs.Ring.{reading, around, lowest, start}
-use Rattle.words.specs.Strand.{opposite, onStrand}
-use Rattle.words.proofs.Search.{by-test}
-use Rattle.words.proofs.Ring.{start-is}
-use Rattle.words.proofs.Turn.{length-reading, reading-at}
-use Rattle.words.proofs.Strand.{length-opposite, opposite-at}
+use Rattle.words.specs.keys.Kind.{isLetter, facing}
+use Rattle.words.specs.rings.Ring.{reading, around, lowest, start}
+use Rattle.words.specs.keys.Strand.{opposite, onStrand}
+use Rattle.words.proofs.order.Search.{by-test}
+use Rattle.words.proofs.rings.Ring.{start-is}
+use Rattle.words.proofs.rings.Turn.{length-reading, reading-at}
+use Rattle.words.proofs.keys.Strand.{length-opposite, opposite-at}
 use Rattle.ring.specs.Judging.{Permitted}
 
 -- the letter opposite is a letter

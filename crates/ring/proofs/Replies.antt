@@ -5,9 +5,9 @@ use mathlib.Core.Bool.{false}
 use mathlib.Core.List.{List}
 use Prim.Native.Nat.{ℕ}
 use lib.ListN.{length}
-use Rattle.words.specs.Factor.{factorTable, lowestEntry}
-use Rattle.words.specs.Duel.{duels, startOf, pairs}
-use Rattle.words.specs.Repeat.{repeat}
+use Rattle.words.specs.factors.Factor.{factorTable, lowestEntry}
+use Rattle.words.specs.duels.Duel.{duels, startOf, pairs}
+use Rattle.words.specs.repeats.Repeat.{repeat}
 use Rattle.ring.specs.declared.judge.Verdict.{Verdict}
 use Rattle.ring.specs.declared.judge.Verdict.the-variants.{Taken}
 use Rattle.ring.specs.declared.answer.Factored.{Factored}

@@ -7,13 +7,13 @@ use Prim.Native.Nat.{ℕ, suc, _≤_, _<_, _+_, _-_, _*_}
 use native.Mathlib.Omega.{arith}
 use lib.ListN.{length, take, getD, List·getD-append}
 use lib.Seq.{take-all}
-use Rattle.words.specs.Ring.{start}
-use Rattle.words.specs.Prefix.{startTable}
-use Rattle.words.specs.Duel.{startOf, pairs}
-use Rattle.words.proofs.Ring.{start-is, start-one}
-use Rattle.words.proofs.Route.{route-is}
-use Rattle.words.proofs.Prefix.{length-startTable, startTable-at}
-use Rattle.words.proofs.Pairs.{duels-end, pairs-few, pairs-three}
+use Rattle.words.specs.rings.Ring.{start}
+use Rattle.words.specs.suffixes.Prefix.{startTable}
+use Rattle.words.specs.duels.Duel.{startOf, pairs}
+use Rattle.words.proofs.rings.Ring.{start-is, start-one}
+use Rattle.words.proofs.factors.Route.{route-is}
+use Rattle.words.proofs.suffixes.Prefix.{length-startTable, startTable-at}
+use Rattle.words.proofs.duels.Pairs.{duels-end, pairs-few, pairs-three}
 use Rattle.ring.specs.Judging.{Permitted}
 use Rattle.ring.specs.Answers.{factoredOf, startsTable, foughtOf}
 use Rattle.ring.specs.Demands.{OneStart}

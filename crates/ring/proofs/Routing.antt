@@ -10,14 +10,14 @@ use borrow.Author.Tests.{ltb-false}
 use lib.Dec.{ltb}
 use lib.ListN.{length, take, drop, set, length-append, length-drop, take-append-drop}
 use lib.Seq.{take-all, drop-drop, drop-length, length-take-le}
-use Rattle.words.specs.Least.{better}
-use Rattle.words.specs.Ring.{reading, start}
-use Rattle.words.specs.Block.{Scan, FirstFactor}
-use Rattle.words.specs.Factor.{factors, firsts, factorTable}
-use Rattle.words.proofs.Search.{by-test}
-use Rattle.words.proofs.Factor.{factors-first}
-use Rattle.words.proofs.Scan.{scan-first, factor-run, factor-word, factor-within, factor-behind, word-again}
-use Rattle.words.proofs.Run.{Best, best-none, best-factor, best-again, best-last}
+use Rattle.words.specs.order.Least.{better}
+use Rattle.words.specs.rings.Ring.{reading, start}
+use Rattle.words.specs.factors.Scan.{Scan, FirstFactor}
+use Rattle.words.specs.factors.Factor.{factors, firsts, factorTable}
+use Rattle.words.proofs.order.Search.{by-test}
+use Rattle.words.proofs.factors.Factor.{factors-first}
+use Rattle.words.proofs.factors.Scan.{scan-first, factor-run, factor-word, factor-within, factor-behind, word-again}
+use Rattle.words.proofs.factors.Run.{Best, best-none, best-factor, best-again, best-last}
 use Rattle.ring.specs.declared.factor.Behind.{Behind}
 use Rattle.ring.specs.Judging.{over}
 use Rattle.ring.specs.Behind.{behindOf}

@@ -4,7 +4,7 @@ use mathlib.Core.Path.{_≡_, refl}
 use mathlib.Core.Bool.{false}
 use mathlib.Core.List.{List, [], _∷_, _++_}
 use Prim.Native.Nat.{ℕ}
-use Rattle.words.proofs.Search.{by-test}
+use Rattle.words.proofs.order.Search.{by-test}
 use Rattle.ring.specs.Rule.{Rule, judged}
 
 -- no rule of a list holds

@@ -6,13 +6,13 @@ use mathlib.Core.List.{List, [], _∷_, _++_}
 use Prim.Native.Nat.{ℕ, _-_}
 use lib.Dec.{ltb, eqb}
 use lib.ListN.{length}
-use Rattle.words.specs.Kind.{stranded}
-use Rattle.words.specs.Ring.{reading, lowest}
-use Rattle.words.specs.Strand.{opposite, onStrand, strand, keyStart, key}
-use Rattle.words.specs.Factor.{factorTable, lowestEntry}
-use Rattle.words.specs.Prefix.{suffixTable, startTable}
-use Rattle.words.specs.Duel.{duels, startOf, pairs}
-use Rattle.words.specs.Repeat.{repeat}
+use Rattle.words.specs.keys.Kind.{stranded}
+use Rattle.words.specs.rings.Ring.{reading, lowest}
+use Rattle.words.specs.keys.Strand.{opposite, onStrand, strand, keyStart, key}
+use Rattle.words.specs.factors.Factor.{factorTable, lowestEntry}
+use Rattle.words.specs.suffixes.Prefix.{suffixTable, startTable}
+use Rattle.words.specs.duels.Duel.{duels, startOf, pairs}
+use Rattle.words.specs.repeats.Repeat.{repeat}
 use Rattle.ring.specs.declared.judge.Verdict.{Verdict}
 use Rattle.ring.specs.declared.judge.Verdict.the-variants.{Taken, Short, NotKey}
 use Rattle.ring.specs.declared.answer.Checked.{Checked}

@@ -6,12 +6,12 @@ use mathlib.Core.Bool.{true}
 use mathlib.Core.List.{List, [], _∷_}
 use Prim.Native.Nat.{ℕ, suc, _≤_, _<_, _-_, _*_}
 use lib.ListN.{length, take, drop, getD}
-use Rattle.words.specs.Order.{_≺_, _≼_}
-use Rattle.words.specs.Kind.{stranded}
-use Rattle.words.specs.Ring.{IsStart, reading, lowest}
-use Rattle.words.specs.Strand.{opposite, onStrand, OneRing}
-use Rattle.words.specs.Factor.{IsFactors, firsts}
-use Rattle.words.specs.Duel.{duels, ended}
+use Rattle.words.specs.order.Order.{_≺_, _≼_}
+use Rattle.words.specs.keys.Kind.{stranded}
+use Rattle.words.specs.rings.Ring.{IsStart, reading, lowest}
+use Rattle.words.specs.keys.Strand.{opposite, onStrand, OneRing}
+use Rattle.words.specs.factors.Factor.{IsFactors, firsts}
+use Rattle.words.specs.duels.Duel.{duels, ended}
 use Rattle.ring.specs.declared.answer.Factored.{Factored}
 use Rattle.ring.specs.declared.answer.Fought.{Fought}
 use Rattle.ring.specs.declared.answer.Compared.{Compared}

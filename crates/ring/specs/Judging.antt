@@ -6,7 +6,7 @@ use mathlib.Core.List.{List, [], _∷_, _++_}
 use Prim.Native.Nat.{ℕ, suc, _≤_, _<_}
 use lib.Dec.{ltb, eqb}
 use lib.ListN.{length, drop, getD}
-use Rattle.words.specs.Kind.{known, isLetter}
+use Rattle.words.specs.keys.Kind.{known, isLetter}
 use Rattle.ring.specs.declared.judge.Verdict.{Verdict}
 use Rattle.ring.specs.declared.judge.Verdict.the-variants.{Taken, Kind, Empty, Long, Letter, Short, NotKey}
 use Rattle.ring.specs.Rule.{Rule, rule, judged}

@@ -4,9 +4,9 @@ use mathlib.Core.Bool.{Bool, cond, not}
 use mathlib.Core.List.{List}
 use Prim.Native.Nat.{ℕ}
 use lib.Dec.{eqb}
-use Rattle.words.specs.Order.{before}
-use Rattle.words.specs.Ring.{start, lowest}
-use Rattle.words.specs.Strand.{opposite}
+use Rattle.words.specs.order.Order.{before}
+use Rattle.words.specs.rings.Ring.{start, lowest}
+use Rattle.words.specs.keys.Strand.{opposite}
 use Rattle.ring.specs.declared.judge.Verdict.{Verdict}
 use Rattle.ring.specs.declared.answer.Marked.{Marked}
 use Rattle.ring.specs.declared.marking.Strands.{Strands}

@@ -2,8 +2,8 @@
 ghost use mathlib.Core.Path.{_≡_};
 ghost use Prim.Native.Nat.{_<_};
 ghost use lib.ListN.{length};
-ghost use Rattle.words.specs.Ring.{reading, lowest};
-ghost use Rattle.words.specs.Strand.{opposite};
+ghost use Rattle.words.specs.rings.Ring.{reading, lowest};
+ghost use Rattle.words.specs.keys.Strand.{opposite};
 ghost use Rattle.ring.specs.Answers.{equal, sameKey, comparedOf};
 use super::answer::Compared;
 use super::facing::facing_table;

@@ -2,7 +2,7 @@
 ghost use mathlib.Core.Path.{_≡_};
 ghost use Prim.Native.Nat.{_≤_, _<_};
 ghost use lib.ListN.{length};
-ghost use Rattle.words.specs.Duel.{duels, startOf, pairs, movedP, movedQ};
+ghost use Rattle.words.specs.duels.Duel.{duels, startOf, pairs, movedP, movedQ};
 ghost use Rattle.ring.specs.Answers.{foughtOf};
 ghost use Rattle.ring.specs.Judging.{most};
 use super::answer::Fought;

@@ -1,6 +1,6 @@
 // The opposite letter, by a table of every byte.
 ghost use mathlib.Core.Path.{_≡_};
-ghost use Rattle.words.specs.Kind as facings;
+ghost use Rattle.words.specs.keys.Kind as facings;
 ghost use Rattle.ring.specs.Facings.{facingTable};
 
 // The letter opposite to each byte: A and T exchanged, C and G exchanged, every other byte itself.

@@ -1,6 +1,6 @@
 // The judging of a ring: one verdict, in the order 6, 1, 2, 3, 4.
 ghost use mathlib.Core.Path.{_≡_};
-ghost use Rattle.words.specs.Kind.{known, isLetter, stranded, strands};
+ghost use Rattle.words.specs.keys.Kind.{known, isLetter, stranded, strands};
 ghost use Rattle.ring.specs.Judging.{firstBad, verdict, numberOf, placeOf};
 ghost use Rattle.ring.specs.Answers.{checkedAs, checkedOf};
 use super::answer::Checked;

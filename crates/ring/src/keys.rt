@@ -3,7 +3,7 @@ ghost use mathlib.Core.Path.{_≡_};
 ghost use mathlib.Core.Bool.{cond, _&&_, _||_};
 ghost use lib.Dec.{ltb};
 ghost use lib.ListN.{length};
-ghost use Rattle.words.specs.Kind.{stranded};
+ghost use Rattle.words.specs.keys.Kind.{stranded};
 ghost use Rattle.ring.specs.Answers.{keyedOf, firstRoom, secondRoom, keyPart, inSecond};
 use super::answer::Marked;
 use super::judge::Verdict;

@@ -2,7 +2,7 @@
 ghost use mathlib.Core.Path.{_≡_};
 ghost use Prim.Native.Nat.{_<_};
 ghost use lib.ListN.{length};
-ghost use Rattle.words.specs.Strand.{keyStart, strand};
+ghost use Rattle.words.specs.keys.Strand.{keyStart, strand};
 ghost use Rattle.ring.specs.Strands.{strandsOf, markedOn, refusedBy};
 ghost use Rattle.ring.specs.Answers.{doneWith, refusalOf, markedOf, letteredOf, letteredRoom};
 use super::answer::Marked;

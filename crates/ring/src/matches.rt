@@ -1,7 +1,7 @@
 // How far the letters from each position on match the front.
 ghost use Prim.Native.Nat.{_<_, _≤_};
 ghost use lib.ListN.{length};
-ghost use Rattle.words.specs.Match.{Match, MatchLength, MatchTable, Kept};
+ghost use Rattle.words.specs.repeats.Match.{Match, MatchLength, MatchTable, Kept};
 ghost use Rattle.ring.specs.Judging.{most};
 
 // How far the letters from `k` on match the front, where `from` of them are known to.

@@ -2,8 +2,8 @@
 ghost use mathlib.Core.Path.{_≡_};
 ghost use Prim.Native.Nat.{_<_, _≤_};
 ghost use lib.ListN.{length};
-ghost use Rattle.words.specs.Match.{MatchTable};
-ghost use Rattle.words.specs.Repeat as repeats;
+ghost use Rattle.words.specs.repeats.Match.{MatchTable};
+ghost use Rattle.words.specs.repeats.Repeat as repeats;
 ghost use Rattle.ring.specs.Answers.{repeatedOf};
 ghost use Rattle.ring.specs.Judging.{most};
 use super::answer::Repeated;

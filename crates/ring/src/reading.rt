@@ -2,11 +2,11 @@
 ghost use mathlib.Core.Path.{_≡_};
 ghost use Prim.Native.Nat.{_+_, _<_, _≤_};
 ghost use lib.ListN.{length};
-ghost use Rattle.words.specs.Ring.{around, reading};
-ghost use Rattle.words.specs.Paired.{Met};
-ghost use Rattle.words.specs.Least.{better};
-ghost use Rattle.words.specs.Order.{before};
-ghost use Rattle.words.specs.Strand.{onStrand};
+ghost use Rattle.words.specs.rings.Ring.{around, reading};
+ghost use Rattle.words.specs.duels.Paired.{Met};
+ghost use Rattle.words.specs.order.Least.{better};
+ghost use Rattle.words.specs.order.Order.{before};
+ghost use Rattle.words.specs.keys.Strand.{onStrand};
 ghost use Rattle.ring.specs.Facings.{facingTable};
 ghost use Rattle.ring.specs.Judging.{over};
 ghost use Rattle.ring.specs.Answers.{equal};

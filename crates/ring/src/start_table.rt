@@ -1,14 +1,14 @@
-// The start table in linear time. The table holds the match lengths first; heads are flagged and entries marked by adding to them.
-// Each block, from the last to the first, is marked and then filled with its starts.
+// The start table in linear time. The table holds the match lengths first; heads are flagged and entries ticked by adding to them.
+// Each block, from the last to the first, is ticked and then filled with its starts.
 ghost use mathlib.Core.Path.{_≡_};
 ghost use mathlib.Core.List.{_++_};
 ghost use Prim.Native.Nat.{_+_, _-_, _<_, _≤_};
 ghost use lib.ListN.{length, take, drop, getD};
-ghost use Rattle.words.specs.Prefix.{startTable};
-ghost use Rattle.words.specs.Match.{MatchTable, Kept};
-ghost use Rattle.words.specs.Block.{Head, Block};
+ghost use Rattle.words.specs.suffixes.Prefix.{startTable};
+ghost use Rattle.words.specs.repeats.Match.{MatchTable, Kept};
+ghost use Rattle.words.specs.suffixes.Block.{Head, Block};
 ghost use Rattle.ring.specs.Answers.{filledOf, startsTable};
-ghost use Rattle.words.specs.Mark.{Flagged, unmark, Judged, Outside, Fresh, Marking, Marked, Done};
+ghost use Rattle.words.specs.starts.Tick.{Flagged, untick, Judged, Outside, Fresh, Ticking, Ticked, Done};
 ghost use Rattle.ring.specs.Judging.{most};
 use super::answer::Checked;
 use super::facing::facing_table;
@@ -23,7 +23,7 @@ use super::matches::match_lengths;
 const HEAD: u16 = MOST as u16;
 
 // An entry has this added where the start is the block's head; no flagged entry reaches it.
-const MARK: u16 = HEAD + HEAD;
+const TICK: u16 = HEAD + HEAD;
 
 // Flags the heads.
 fn flag_heads(w: &[u8], t: &mut [u16])
@@ -39,61 +39,61 @@ fn flag_heads(w: &[u8], t: &mut [u16])
     }
 }
 
-// An entry without its mark.
-fn unmarked(v: u16) -> usize
-    ensures { λ r. ⌜ r ≡ unmark most v ⌝ }
+// An entry without its tick.
+fn unticked(v: u16) -> usize
+    ensures { λ r. ⌜ r ≡ untick most v ⌝ }
 {
-    if MARK <= v {
-        (v - MARK) as usize
+    if TICK <= v {
+        (v - TICK) as usize
     } else {
         v as usize
     }
 }
 
 // What to add to entry `l` of the block from `m`, where letter `l` goes on the word of `p` letters.
-fn mark_for(w: &[u8], t: &[u16], m: usize, p: usize, l: usize) -> u16
+fn tick_for(w: &[u8], t: &[u16], m: usize, p: usize, l: usize) -> u16
     requires { ⌜ (l < length (now w)) × (length (now w) ≤ most) × (length (now w) ≤ length (now t)) ⌝ }
-    requires { ⌜ Marking most (now w) (now t) m p l × Block (now w) m p (l + 1) ⌝ }
+    requires { ⌜ Ticking most (now w) (now t) m p l × Block (now w) m p (l + 1) ⌝ }
     ensures { λ r. ⌜ Judged most (drop m (now (w .entry))) (take m (now (w .entry))) (l + 1 - m) r ⌝ }
 {
     if p + p < l + 1 - m {
-        if MARK <= t[l - p] {
-            return MARK;
+        if TICK <= t[l - p] {
+            return TICK;
         }
         return 0;
     }
     if p + p == l + 1 - m {
-        return MARK;
+        return TICK;
     }
-    let z = unmarked(t[l + 1 - p]);
+    let z = unticked(t[l + 1 - p]);
     let i = l + 1 - p + z;
     if m + p <= i {
-        return MARK;
+        return TICK;
     }
     if w[i] < w[z] {
-        return MARK;
+        return TICK;
     }
     0
 }
 
-// Marks the entries of the block from `m` whose start is `m`, and answers where the block ends.
-fn mark(w: &[u8], t: &mut [u16], m: usize) -> usize
+// Ticks the entries of the block from `m` whose start is `m`, and answers where the block ends.
+fn tick(w: &[u8], t: &mut [u16], m: usize) -> usize
     requires { ⌜ (m < length (now w)) × (length (now w) ≤ most) × (length (now w) ≤ length (now t)) ⌝ }
     requires { ⌜ Head (now w) m × Fresh most (now w) (now t) m ⌝ }
-    ensures { λ r. ⌜ Marked most (now (w .entry)) (now (t .exit)) m r × Outside (now (t .entry)) (now (t .exit)) m r ⌝ }
+    ensures { λ r. ⌜ Ticked most (now (w .entry)) (now (t .exit)) m r × Outside (now (t .entry)) (now (t .exit)) m r ⌝ }
 {
-    t[m] = MARK;
+    t[m] = TICK;
     let mut p: usize = 1;
     let mut l: usize = m + 1;
     while l < w.len() {
         if w[l] < w[l - p] {
             break;
         }
-        let mut a = MARK;
+        let mut a = TICK;
         if w[l - p] < w[l] {
             p = l + 1 - m;
         } else {
-            a = mark_for(w, t, m, p, l);
+            a = tick_for(w, t, m, p, l);
         }
         t[l] = t[l] + a;
         l += 1;
@@ -101,9 +101,9 @@ fn mark(w: &[u8], t: &mut [u16], m: usize) -> usize
     l
 }
 
-// Turns the marks of the block from `m` to `end` into starts.
+// Turns the ticks of the block from `m` to `end` into starts.
 fn resolve(w: &[u8], t: &mut [u16], m: usize, end: usize)
-    requires { ⌜ (length (now w) ≤ most) × (length (now w) ≤ length (now t)) × Marked most (now w) (now t) m end ⌝ }
+    requires { ⌜ (length (now w) ≤ most) × (length (now w) ≤ length (now t)) × Ticked most (now w) (now t) m end ⌝ }
     ensures { λ _. ⌜ Done (now (w .entry)) (now (t .entry)) (now (t .exit)) m end ⌝ }
 {
     t[m] = m as u16;
@@ -113,7 +113,7 @@ fn resolve(w: &[u8], t: &mut [u16], m: usize, end: usize)
         let mut start = m;
         if w[l - p] < w[l] {
             p = l + 1 - m;
-        } else if t[l] < MARK {
+        } else if t[l] < TICK {
             start = t[l - p] as usize + p;
         }
         t[l] = start as u16;
@@ -132,7 +132,7 @@ fn fill_starts(w: &[u8], t: &mut [u16])
     while 0 < c {
         c -= 1;
         if HEAD <= t[c] {
-            let end = mark(w, t, c);
+            let end = tick(w, t, c);
             resolve(w, t, c, end);
         }
     }

@@ -2,7 +2,7 @@
 ghost use mathlib.Core.Path.{_≡_};
 ghost use Prim.Native.Nat.{_<_, _≤_};
 ghost use lib.ListN.{length, take, drop, getD};
-ghost use Rattle.words.specs.Strand.{onStrand};
+ghost use Rattle.words.specs.keys.Strand.{onStrand};
 ghost use Rattle.ring.specs.Facings.{facingTable};
 ghost use Rattle.ring.specs.OnStrand.{placeOn, shownOn};
 ghost use Rattle.ring.specs.Judging.{over};

@@ -2,9 +2,9 @@
 ghost use mathlib.Core.Path.{_≡_};
 ghost use Prim.Native.Nat.{_≤_, _<_};
 ghost use lib.ListN.{length};
-ghost use Rattle.words.specs.Prefix.{suffixTable};
-ghost use Rattle.words.specs.Block.{Head};
-ghost use Rattle.words.specs.Fill.{Filled};
+ghost use Rattle.words.specs.suffixes.Prefix.{suffixTable};
+ghost use Rattle.words.specs.suffixes.Block.{Head};
+ghost use Rattle.words.specs.suffixes.Fill.{Filled};
 ghost use Rattle.ring.specs.Judging.{most, over};
 ghost use Rattle.ring.specs.Answers.{filledOf, suffixesTable};
 use super::answer::Checked;

@@ -9,8 +9,8 @@ use borrow.Author.Tests.{eq-eqb, ne-eqb, eqb-true, eqb-false}
 use lib.Dec.{eqb}
 use lib.ListN.{length, take, drop, length-append, List·getD-append, List·getD-eq-default}
 use lib.Seq.{take-at, drop-at}
-use Rattle.words.specs.Strand.{strand, keyStart}
-use Rattle.words.proofs.Search.{by-test, either, lt-or-ge}
+use Rattle.words.specs.keys.Strand.{strand, keyStart}
+use Rattle.words.proofs.order.Search.{by-test, either, lt-or-ge}
 use Rattle.ring.specs.Answers.{doneWith}
 use Rattle.sheet.specs.declared.answer.Found.{Found}
 use Rattle.sheet.specs.declared.answer.Found.the-variants.{Sheet, Refused}

@@ -3,9 +3,9 @@
 use mathlib.Core.Path.{_≡_, refl}
 use mathlib.Core.List.{List, [], _∷_, _++_}
 use Prim.Native.Nat.{ℕ}
-use Rattle.words.specs.Kind.{stranded}
-use Rattle.words.specs.Ring.{reading, start, lowest}
-use Rattle.words.specs.Strand.{opposite, strand, keyStart, key}
+use Rattle.words.specs.keys.Kind.{stranded}
+use Rattle.words.specs.rings.Ring.{reading, start, lowest}
+use Rattle.words.specs.keys.Strand.{opposite, strand, keyStart, key}
 use Rattle.ring.specs.Judging.{verdict}
 use Rattle.ring.specs.Answers.{doneWith, deposit, isKey}
 use Rattle.sheet.specs.declared.answer.Found.the-variants.{Sheet, Refused}

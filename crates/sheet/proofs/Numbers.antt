@@ -9,7 +9,7 @@ use native.Mathlib.Omega.{arith}
 use borrow.Author.Tests.{lt-ltb, le-ltb, eqb-true, eqb-false}
 use lib.Dec.{ltb, eqb}
 use lib.ListN.{length}
-use Rattle.words.proofs.Search.{by-test, either, lt-or-ge}
+use Rattle.words.proofs.order.Search.{by-test, either, lt-or-ge}
 use Rattle.ring.specs.Rule.{rule}
 use Rattle.ring.specs.Judging.{most}
 use Rattle.ring.proofs.Rules.{clear-more, done-clear, refused-more}

@@ -10,9 +10,9 @@ use borrow.Author.Tests.{eq-eqb, ne-eqb, eqb-true, eqb-false, lt-ltb, le-ltb, lt
 use lib.Dec.{ltb, leb, eqb}
 use lib.ListN.{length, take, drop, getD, length-take, length-drop}
 use lib.Seq.{take-all, drop-drop, getD-drop}
-use Rattle.words.specs.Kind.{known, stranded, strands}
-use Rattle.words.proofs.Kind.{no-strand}
-use Rattle.words.proofs.Search.{by-test, either}
+use Rattle.words.specs.keys.Kind.{known, stranded, strands}
+use Rattle.words.proofs.keys.Kind.{no-strand}
+use Rattle.words.proofs.order.Search.{by-test, either}
 use Rattle.ring.specs.Rule.{Rule, judged}
 use Rattle.ring.specs.Judging.{most}
 use Rattle.ring.proofs.Rules.{done-clear, refused-more}

@@ -8,10 +8,10 @@ use native.Mathlib.Omega.{arith}
 use borrow.Author.Tests.{lt-leb, le-ltb}
 use lib.ListN.{length, take, drop, getD, length-append}
 use lib.Seq.{take-at, drop-at}
-use Rattle.words.specs.Kind.{known, isLetter, strands}
-use Rattle.words.specs.Strand.{strand, keyStart, key}
-use Rattle.words.proofs.Kind.{no-strand}
-use Rattle.words.proofs.Molecule.{strand-below}
+use Rattle.words.specs.keys.Kind.{known, isLetter, strands}
+use Rattle.words.specs.keys.Strand.{strand, keyStart, key}
+use Rattle.words.proofs.keys.Kind.{no-strand}
+use Rattle.words.proofs.keys.Molecule.{strand-below}
 use Rattle.ring.specs.declared.judge.Verdict.the-variants.{Taken}
 use Rattle.ring.specs.declared.answer.Checked.{Checked}
 use Rattle.ring.specs.declared.answer.Marked.{Marked}

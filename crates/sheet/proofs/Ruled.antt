@@ -9,7 +9,7 @@ use native.Mathlib.Omega.{arith}
 use borrow.Author.Tests.{ltb-false, eqb-true, eqb-false}
 use lib.Dec.{ltb, eqb}
 use lib.ListN.{length}
-use Rattle.words.proofs.Search.{by-test}
+use Rattle.words.proofs.order.Search.{by-test}
 use Rattle.ring.specs.declared.judge.Verdict.the-variants.{Taken}
 use Rattle.ring.specs.Judging.{Given, numberOf, placeOf, taken}
 use Rattle.ring.specs.Demands.{AsRuled, lent}

@@ -10,9 +10,9 @@ use lib.Dec.{ltb}
 use lib.ListN.{length, take, drop, set, length-append, take-append-drop}
 use lib.Seq.{sets, append-snoc, drop-append-le, length-take-le}
 use borrow.Rule.Slice.PartMut.{putMid}
-use Rattle.words.specs.Kind.{known}
-use Rattle.words.specs.Strand.{strand, keyStart, key}
-use Rattle.words.proofs.Search.{by-test, either, lt-or-ge}
+use Rattle.words.specs.keys.Kind.{known}
+use Rattle.words.specs.keys.Strand.{strand, keyStart, key}
+use Rattle.words.proofs.order.Search.{by-test, either, lt-or-ge}
 use Rattle.ring.specs.declared.judge.Verdict.{Verdict}
 use Rattle.ring.specs.declared.judge.Verdict.the-variants.{Taken}
 use Rattle.ring.specs.declared.answer.Marked.{Marked}

@@ -5,8 +5,8 @@ use mathlib.Core.Bool.{true, false}
 use mathlib.Core.List.{List, [], _∷_, _++_}
 use Prim.Native.Nat.{ℕ, _≤_, _<_, _+_, _-_}
 use lib.ListN.{length, take, drop, getD}
-use Rattle.words.specs.Kind.{known, isLetter}
-use Rattle.words.specs.Strand.{key}
+use Rattle.words.specs.keys.Kind.{known, isLetter}
+use Rattle.words.specs.keys.Strand.{key}
 use Rattle.ring.specs.declared.answer.Checked.{Checked}
 use Rattle.ring.specs.declared.answer.Marked.{Marked}
 use Rattle.ring.specs.Judging.{most, Permitted}

@@ -6,7 +6,7 @@ use mathlib.Core.List.{List, [], _∷_, _++_}
 use Prim.Native.Nat.{ℕ, zero, suc, _+_, _*_, _/_, _%_}
 use lib.Dec.{ltb}
 use lib.ListN.{length, drop, getD}
-use Rattle.words.specs.Strand.{strand, keyStart, key}
+use Rattle.words.specs.keys.Strand.{strand, keyStart, key}
 use Rattle.ring.specs.declared.judge.Verdict.{Verdict}
 use Rattle.ring.specs.declared.answer.Marked.{Marked}
 use Rattle.ring.specs.Judging.{Permitted, verdict, after}

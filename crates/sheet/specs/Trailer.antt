@@ -5,7 +5,7 @@ use mathlib.Core.List.{List, [], _∷_, _++_}
 use Prim.Native.Nat.{ℕ, _+_, _-_, _<_}
 use lib.Dec.{ltb, eqb}
 use lib.ListN.{length, take, drop, getD}
-use Rattle.words.specs.Kind.{known, stranded}
+use Rattle.words.specs.keys.Kind.{known, stranded}
 use Rattle.ring.specs.Rule.{Rule, rule, judged}
 use Rattle.ring.specs.Judging.{most, firstBad}
 use Rattle.ring.specs.Answers.{doneWith}

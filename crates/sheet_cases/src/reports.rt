@@ -13,7 +13,7 @@ fn whole(input: &[u8]) {
     text(b"REPORT on");
     letters(input);
     text(b" :");
-    let mut room = [b'.'; 160000];
+    let mut room = [b'.'; report::ROOM];
     let size = report::report(input, &mut room);
     number(size);
     line();
@@ -25,7 +25,7 @@ fn long(input: &[u8], n: usize) {
     if input.len() < n {
         return;
     }
-    let mut room = [b'.'; 160000];
+    let mut room = [b'.'; report::ROOM];
     let size = report::report(&input[0..n], &mut room);
     number(size);
     summed(&room, size);

@@ -1,38 +1,19 @@
--- The laws of words and rings, each file over those before it
-pub mod Search
-pub mod Order
-pub mod Kind
-pub mod Ring
-pub mod Turn
-pub mod Strand
-pub mod Molecule
-pub mod Lyndon
-pub mod Factor
-pub mod Over
-pub mod Scan
-pub mod Prefix
-pub mod Suffix
-pub mod Block
-pub mod Fill
-pub mod Route
-pub mod Run
-pub mod Runs
-pub mod Repeat
-pub mod RingRepeat
-pub mod Necklace
-pub mod TurnBack
-pub mod Paired
-pub mod Beaten
-pub mod Duel
-pub mod Pairs
-pub mod Push
-pub mod Chain
-pub mod Start
-pub mod StartScan
-pub mod StartHead
-pub mod Match
-pub mod StartMatch
-pub mod StartMark
-pub mod StartFill
-pub mod StartTable
+-- The laws of words and rings, each group over those before it
+-- Searches over numbers, and the order of words
+pub mod order
+-- Readings of a ring, its start, its lowest reading
+pub mod rings
+-- Lyndon words and factors, found letter by letter; the factor route
+pub mod factors
+-- The repeat and the ring repeat, and how far letters match the front of a word
+pub mod repeats
+-- Kinds, the opposite strand, the key; rings of one key, and a key turned back
+pub mod keys
+-- The least suffix, the two prefix tables, and how the suffix table is filled
+pub mod suffixes
+-- Letters compared pair by pair, and the duel route
+pub mod duels
+-- How the start table is made in place, block by block
+pub mod starts
+-- The rows of 01's table, over all of these
 pub mod Table

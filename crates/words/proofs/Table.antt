@@ -2,13 +2,13 @@
 -- Assumes nothing.
 use mathlib.Core.Path.{_≡_, refl}
 use mathlib.Core.List.{[], _∷_, map}
-use Rattle.words.specs.Ring.{reading, around, start, lowest}
-use Rattle.words.specs.Strand.{opposite, strand, keyStart, key}
-use Rattle.words.specs.Factor.{longest, factors, factorTable}
-use Rattle.words.specs.Prefix.{leastSuffix, suffixTable, startTable}
-use Rattle.words.specs.Kind.{stranded}
-use Rattle.words.specs.Repeat.{repeat, ringRepeat}
-use Rattle.words.specs.Duel.{duels, pairs, meet, forward, lower, upper}
+use Rattle.words.specs.rings.Ring.{reading, around, start, lowest}
+use Rattle.words.specs.keys.Strand.{opposite, strand, keyStart, key}
+use Rattle.words.specs.factors.Factor.{longest, factors, factorTable}
+use Rattle.words.specs.suffixes.Prefix.{leastSuffix, suffixTable, startTable}
+use Rattle.words.specs.keys.Kind.{stranded}
+use Rattle.words.specs.repeats.Repeat.{repeat, ringRepeat}
+use Rattle.words.specs.duels.Duel.{duels, pairs, meet, forward, lower, upper}
 use Rattle.words.specs.Table.{answered, rows, A, C, G, T}
 
 -- the definitions give each row of the table

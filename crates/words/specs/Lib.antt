@@ -1,20 +1,19 @@
--- What the public contracts and the theorems speak of
-pub mod Search
-pub mod Order
-pub mod Least
-pub mod Ring
-pub mod Kind
-pub mod Strand
-pub mod Lyndon
-pub mod Factor
-pub mod Prefix
-pub mod Repeat
-pub mod Duel
+-- What the contracts and the theorems speak of, each group over those before it. A group's file sets apart what only inner functions cite
+-- Searches over numbers, and the order of words
+pub mod order
+-- Readings of a ring, its start, its lowest reading
+pub mod rings
+-- Lyndon words and factors, found letter by letter; the factor route
+pub mod factors
+-- The repeat and the ring repeat, and how far letters match the front of a word
+pub mod repeats
+-- Kinds, the opposite strand, the key; rings of one key, and a key turned back
+pub mod keys
+-- The least suffix, the two prefix tables, and how the suffix table is filled
+pub mod suffixes
+-- Letters compared pair by pair, and the duel route
+pub mod duels
+-- How the start table is made in place, block by block
+pub mod starts
+-- The rows of 01's table, over all of these
 pub mod Table
--- What only the contracts of inner functions cite
-pub mod Paired
-pub mod Block
-pub mod Fill
-pub mod Start
-pub mod Match
-pub mod Mark

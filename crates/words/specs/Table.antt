@@ -2,10 +2,10 @@
 -- Assumes nothing.
 use mathlib.Core.List.{List, [], _∷_}
 use Prim.Native.Nat.{ℕ}
-use Rattle.words.specs.Ring.{start}
-use Rattle.words.specs.Strand.{strand, keyStart, key}
-use Rattle.words.specs.Factor.{factorTable}
-use Rattle.words.specs.Duel.{duels, Duels, ended}
+use Rattle.words.specs.rings.Ring.{start}
+use Rattle.words.specs.keys.Strand.{strand, keyStart, key}
+use Rattle.words.specs.factors.Factor.{factorTable}
+use Rattle.words.specs.duels.Duel.{duels, Duels, ended}
 
 pub record Row : Type 0 where
   pub ring : List ℕ

@@ -6,7 +6,7 @@ use native.Mathlib.Omega.{arith}
 use borrow.Author.Needs.{needs}
 use lib.ListN.{length, drop, length-drop}
 use lib.Seq.{length-take-le}
-use Rattle.words.proofs.Search.{either}
+use Rattle.words.proofs.order.Search.{either}
 use Rattle.ring.proofs.Laid.{laid-size}
 use Rattle.report.proofs.Rows.{Rowed, rowed-none, rowed-one, rowed-all, Between, last, inner}
 use Rattle.report.proofs.decimal.put_row.Statement.{statement}

@@ -2,8 +2,8 @@
 -- Assumes nothing.
 use native.Mathlib.Omega.{arith}
 use lib.ListN.{replicate}
-use Rattle.words.specs.Factor.{factorTable}
-use Rattle.words.proofs.Runs.{table-few}
+use Rattle.words.specs.factors.Factor.{factorTable}
+use Rattle.words.proofs.factors.Runs.{table-few}
 use Rattle.report.specs.Report.{longest, factorLine}
 use Rattle.report.proofs.Told.{told-factored, told-table}
 use borrow.Author.Needs.{needs}

@@ -1,7 +1,7 @@
 -- `report::lines::put_head` meets its contract.
 -- Assumes nothing.
 use native.Mathlib.Omega.{arith}
-use Rattle.words.specs.Repeat.{repeat}
+use Rattle.words.specs.repeats.Repeat.{repeat}
 use Rattle.report.specs.Report.{headLine}
 use Rattle.report.proofs.Told.{told-fought, told-repeated, start-small, repeat-small, pairs-small}
 use borrow.Author.Needs.{needs}

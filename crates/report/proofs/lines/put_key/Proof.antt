@@ -4,7 +4,7 @@ use mathlib.Core.Path.{sym}
 use mathlib.Core.List.{[], _∷_}
 use native.Mathlib.Omega.{arith}
 use lib.ListN.{length, replicate, length-take, length-drop}
-use Rattle.words.specs.Strand.{strand, keyStart, key}
+use Rattle.words.specs.keys.Strand.{strand, keyStart, key}
 use Rattle.ring.proofs.Laid.{Laid}
 use Rattle.report.specs.Decimal.{row}
 use Rattle.report.specs.Report.{longest}

@@ -2,8 +2,8 @@
 -- Assumes nothing.
 use mathlib.Core.Path.{sym}
 use lib.ListN.{replicate}
-use Rattle.words.specs.Prefix.{startTable}
-use Rattle.words.proofs.Prefix.{length-startTable}
+use Rattle.words.specs.suffixes.Prefix.{startTable}
+use Rattle.words.proofs.suffixes.Prefix.{length-startTable}
 use Rattle.report.specs.Report.{longest, startLine}
 use Rattle.report.proofs.Told.{told-table}
 use borrow.Author.Needs.{needs}

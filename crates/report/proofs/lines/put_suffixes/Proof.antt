@@ -2,8 +2,8 @@
 -- Assumes nothing.
 use mathlib.Core.Path.{sym}
 use lib.ListN.{replicate}
-use Rattle.words.specs.Prefix.{suffixTable}
-use Rattle.words.proofs.Prefix.{length-suffixTable}
+use Rattle.words.specs.suffixes.Prefix.{suffixTable}
+use Rattle.words.proofs.suffixes.Prefix.{length-suffixTable}
 use Rattle.report.specs.Report.{longest, suffixLine}
 use Rattle.report.proofs.Told.{told-table}
 use borrow.Author.Needs.{needs}

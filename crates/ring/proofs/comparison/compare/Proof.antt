@@ -22,7 +22,9 @@ place-of-requires c κs = search needs
 
 returns : tie.Need-returns
 returns c =
-    compared-first (c .before .before .before .before .before .before .args .kind) (c .before .before .before .before .before .before .args .first .now) (c .before .before .before .before .before .before .args .second .now) (c .before .before .before .judge .result) (c .before .before .before .judge .ensures) (not-taken (c .before .before .before .judge .result) (c .before .before .match .keys2)) _ _ (c .before .number-of .ensures) (c .place-of .ensures)
+    let args = (let p : tie.Start = search in p .args) in
+    let judge = (let p : tie.After-judge = search in p .judge) in
+    compared-first (args .kind) (args .first .now) (args .second .now) (judge .result) (judge .ensures) (not-taken (judge .result) (c .before .before .match .keys2)) _ _ (c .before .number-of .ensures) (c .place-of .ensures)
 
 judge-requires-2 : tie.Need-judge-requires-2
 judge-requires-2 c κs = search needs
@@ -38,17 +40,27 @@ place-of-requires-2 c κs = search needs
 
 returns-2 : tie.Need-returns-2
 returns-2 c =
-    compared-second (c .before .before .before .before .before .before .before .before .before .args .kind) (c .before .before .before .before .before .before .before .before .before .args .first .now) (c .before .before .before .before .before .before .before .before .before .args .second .now) _ (c .before .before .before .before .before .before .judge .ensures) (c .before .before .before .before .enum-told .given .1) (c .before .before .before .judge2 .result) (c .before .before .before .judge2 .ensures) (not-taken (c .before .before .before .judge2 .result) (c .before .before .match2 .keys2)) _ _ (c .before .number-of2 .ensures) (c .place-of2 .ensures)
+    let args = (let p : tie.Start = search in p .args) in
+    let judge = (let p : tie.After-judge = search in p .judge) in
+    let told = (let p : tie.After-enum-told = search in p .enum-told) in
+    let judge2 = (let p : tie.After-judge2 = search in p .judge2) in
+    compared-second (args .kind) (args .first .now) (args .second .now) _ (judge .ensures) (told .given .1) (judge2 .result) (judge2 .ensures) (not-taken (judge2 .result) (c .before .before .match2 .keys2)) _ _ (c .before .number-of2 .ensures) (c .place-of2 .ensures)
 
 same-key-requires : tie.Need-same-key-requires
 same-key-requires c κs =
-    let p = taken-permitted _ _ _ (sym (c .before .before .before .before .before .judge .ensures) ∙ c .before .before .before .enum-told .given .1) .0 in
+    let judge = (let p : tie.After-judge = search in p .judge) in
+    let told = (let p : tie.After-enum-told = search in p .enum-told) in
+    let p = taken-permitted _ _ _ (sym (judge .ensures) ∙ told .given .1) .0 in
     let q = taken-permitted _ _ _ (sym (c .before .before .judge2 .ensures) ∙ c .enum-told2 .given .1) .0 in
     search needs
 
 returns-3 : tie.Need-returns-3
 returns-3 c =
-    compared-done (c .before .before .before .before .before .before .before .before .before .args .kind) (c .before .before .before .before .before .before .before .before .before .args .first .now) (c .before .before .before .before .before .before .before .before .before .args .second .now) _ (c .before .before .before .before .before .before .judge .ensures) (c .before .before .before .before .enum-told .given .1) _ (c .before .before .before .judge2 .ensures) (c .before .enum-told2 .given .1) _ (c .same-key .ensures)
+    let args = (let p : tie.Start = search in p .args) in
+    let judge = (let p : tie.After-judge = search in p .judge) in
+    let told = (let p : tie.After-enum-told = search in p .enum-told) in
+    let judge2 = (let p : tie.After-judge2 = search in p .judge2) in
+    compared-done (args .kind) (args .first .now) (args .second .now) _ (judge .ensures) (told .given .1) _ (judge2 .ensures) (c .before .enum-told2 .given .1) _ (c .same-key .ensures)
 
 pub compare-spec : {M : Type 1} → statement M
 compare-spec =

@@ -2,7 +2,7 @@
 -- Assumes nothing.
 use mathlib.Core.Path.{_∙_}
 use borrow.Author.Needs.{needs}
-use Rattle.words.specs.Ring.{lowest}
+use Rattle.words.specs.rings.Ring.{lowest}
 use Rattle.ring.proofs.Marks.{found-within}
 use Rattle.ring.proofs.comparison.same_opposite.Statement.{statement}
 use Rattle.ring.proofs.comparison.same_opposite.Tie as tie
@@ -14,7 +14,9 @@ start-of-requires : tie.Need-start-of-requires
 start-of-requires c κs = search needs
 
 same-reading-requires : tie.Need-same-reading-requires
-same-reading-requires c κs = let b = found-within 1 _ _ (c .before .start-of .ensures) (c .before .before .before .before .before .before .pre .0) in search needs
+same-reading-requires c κs =
+    let pre = (let p : tie.Start = search in p .pre) in
+    let b = found-within 1 _ _ (c .before .start-of .ensures) (pre .0) in search needs
 
 returns : tie.Need-returns
 unfolding lowest

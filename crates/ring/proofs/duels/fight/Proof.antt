@@ -1,4 +1,4 @@
--- `ring::duels::fight` meets its contract. The invariants are the laws of `Rattle.words.proofs.Duel`: a run of duels, and letters that agree.
+-- `ring::duels::fight` meets its contract. The invariants are the laws of `Rattle.words.proofs.duels.Duel`: a run of duels, and letters that agree.
 -- Assumes nothing.
 use mathlib.Core.List.{List}
 use Prim.Native.Nat.{ℕ, _+_, _≤_, _<_, _-_}
@@ -6,10 +6,10 @@ use mathlib.Core.Path.{sym, ap, _∙_}
 use native.Mathlib.Omega.{arith}
 use borrow.Author.Needs.{needs}
 use borrow.Author.Count.{below-more}
-use Rattle.words.specs.Duel.{startOf}
-use Rattle.words.proofs.Search.{either}
-use Rattle.words.specs.Paired.{Paired, Met}
-use Rattle.words.proofs.Duel.{Run, run-first, run-out, run-same, run-moved}
+use Rattle.words.specs.duels.Duel.{startOf}
+use Rattle.words.proofs.order.Search.{either}
+use Rattle.words.specs.duels.Paired.{Paired, Met}
+use Rattle.words.proofs.duels.Duel.{Run, run-first, run-out, run-same, run-moved}
 use Rattle.ring.proofs.duels.fight.Statement.{statement}
 use Rattle.ring.proofs.duels.fight.Tie as tie
 

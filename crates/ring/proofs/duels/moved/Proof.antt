@@ -3,9 +3,9 @@
 use mathlib.Core.Path.{_≡_, _∙_}
 use native.Mathlib.Omega.{arith}
 use borrow.Author.Needs.{needs}
-use Rattle.words.specs.Duel.{forward}
-use Rattle.words.proofs.Search.{either}
-use Rattle.words.proofs.Beaten.{forward-on, forward-off, moved-same, moved-past, moved-short}
+use Rattle.words.specs.duels.Duel.{forward}
+use Rattle.words.proofs.order.Search.{either}
+use Rattle.words.proofs.duels.Beaten.{forward-on, forward-off, moved-same, moved-past, moved-short}
 use Rattle.ring.proofs.duels.moved.Statement.{statement}
 use Rattle.ring.proofs.duels.moved.Tie as tie
 use Rattle.ring.proofs.duels.moved.Reads as reads

@@ -3,7 +3,7 @@
 use borrow.Author.Needs.{needs}
 use mathlib.Core.Path.{sym, _∙_}
 use borrow.Author.Tests.{ltb-false}
-use Rattle.words.proofs.Route.{route-is}
+use Rattle.words.proofs.factors.Route.{route-is}
 use Rattle.ring.proofs.Judging.{not-taken}
 use Rattle.ring.proofs.Replies.{factored-refused, factored-done}
 use Rattle.ring.proofs.Exactly.{taken-permitted}

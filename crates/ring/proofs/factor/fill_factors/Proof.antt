@@ -6,8 +6,8 @@ use native.Mathlib.Omega.{arith}
 use borrow.Author.Needs.{needs}
 use lib.ListN.{length, drop, length-drop, length-set}
 use lib.Seq.{length-take-le}
-use Rattle.words.proofs.Run.{best-below}
-use Rattle.words.proofs.Scan.{factor-within}
+use Rattle.words.proofs.factors.Run.{best-below}
+use Rattle.words.proofs.factors.Scan.{factor-within}
 use Rattle.ring.proofs.Routing.{Routing, routing-none, routing-left, routing-fits, routing-best, routing-next, routing-end}
 use Rattle.ring.proofs.factor.fill_factors.Statement.{statement}
 use Rattle.ring.proofs.factor.fill_factors.Tie as tie

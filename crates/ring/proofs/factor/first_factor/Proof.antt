@@ -1,4 +1,4 @@
--- `ring::factor::first_factor` meets its contract. The invariant is the scan of `Rattle.words.proofs.Scan`, on the strand; letters that
+-- `ring::factor::first_factor` meets its contract. The invariant is the scan of `Rattle.words.proofs.factors.Scan`, on the strand; letters that
 -- are the same are read alike, and letters that differ are not.
 -- Assumes nothing.
 use mathlib.Core.Path.{_≡_}
@@ -6,10 +6,10 @@ use Prim.Native.Nat.{_-_}
 use native.Mathlib.Omega.{arith}
 use borrow.Author.Needs.{needs}
 use lib.ListN.{length}
-use Rattle.words.specs.Strand.{onStrand}
-use Rattle.words.proofs.Search.{either}
-use Rattle.words.proofs.Scan.{Scan, scan-greater, scan-equal}
-use Rattle.words.proofs.Strand.{length-strand}
+use Rattle.words.specs.keys.Strand.{onStrand}
+use Rattle.words.proofs.order.Search.{either}
+use Rattle.words.proofs.factors.Scan.{Scan, scan-greater, scan-equal}
+use Rattle.words.proofs.keys.Strand.{length-strand}
 use Rattle.ring.proofs.OnStrand.{alike, less, more}
 use Rattle.ring.proofs.factor.first_factor.Statement.{statement}
 use Rattle.ring.proofs.factor.first_factor.Tie as tie

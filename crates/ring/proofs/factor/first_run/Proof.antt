@@ -3,8 +3,8 @@
 use native.Mathlib.Omega.{arith}
 use native.Mathlib.Nat.{mod-le}
 use borrow.Author.Needs.{needs}
-use Rattle.words.proofs.Scan.{scan-first, factor-run}
-use Rattle.words.proofs.Strand.{length-strand}
+use Rattle.words.proofs.factors.Scan.{scan-first, factor-run}
+use Rattle.words.proofs.keys.Strand.{length-strand}
 use Rattle.ring.proofs.factor.first_run.Statement.{statement}
 use Rattle.ring.proofs.factor.first_run.Tie as tie
 

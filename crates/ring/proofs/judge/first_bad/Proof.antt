@@ -25,7 +25,9 @@ is-letter-requires : tie.Need-is-letter-requires Inv-loop μ-loop
 is-letter-requires c κs = search needs
 
 returns : tie.Need-returns Inv-loop μ-loop
-returns c = sym (passed-stop _ _ _ (c .before .before .before .before .loop .inv .1) (search needs) (sym (c .before .is-letter .ensures) ∙ not-true _ (c .if1 .taken)))
+returns c =
+    let kept = (let p : tie.At-loop Inv-loop μ-loop = search in p .loop) in
+    sym (passed-stop _ _ _ (kept .inv .1) (search needs) (sym (c .before .is-letter .ensures) ∙ not-true _ (c .if1 .taken)))
 
 add-i : tie.Need-add-i Inv-loop μ-loop
 add-i c = search needs
@@ -34,7 +36,9 @@ loop-less : tie.Need-loop-less Inv-loop μ-loop
 loop-less c = search needs
 
 loop-again : tie.Need-loop-again Inv-loop μ-loop
-loop-again c = (search needs, passed-one _ _ _ (c .before .before .before .before .loop .inv .1) (search needs) (sym (c .before .is-letter .ensures) ∙ not-false _ (c .if1 .left)))
+loop-again c =
+    let kept = (let p : tie.At-loop Inv-loop μ-loop = search in p .loop) in
+    (search needs, passed-one _ _ _ (kept .inv .1) (search needs) (sym (c .before .is-letter .ensures) ∙ not-false _ (c .if1 .left)))
 
 returns-2 : tie.Need-returns-2 Inv-loop μ-loop
 returns-2 c = sym (passed-all _ _ _ (c .before .loop .inv .1) (search needs))

@@ -1,7 +1,7 @@
 -- `ring::judge::has_strands` meets its contract.
 -- Assumes nothing.
 use mathlib.Core.Path.{refl}
-use Rattle.words.specs.Kind.{stranded}
+use Rattle.words.specs.keys.Kind.{stranded}
 use Rattle.ring.proofs.judge.has_strands.Statement.{statement}
 use Rattle.ring.proofs.judge.has_strands.Tie as tie
 

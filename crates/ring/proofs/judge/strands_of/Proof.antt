@@ -1,7 +1,7 @@
 -- `ring::judge::strands_of` meets its contract.
 -- Assumes nothing.
 use mathlib.Core.Path.{sym, _∙_}
-use Rattle.words.proofs.Kind.{strands-none, strands-both, strands-own}
+use Rattle.words.proofs.keys.Kind.{strands-none, strands-both, strands-own}
 use borrow.Author.Needs.{needs}
 use borrow.Author.Tests.{not-true, not-false}
 use Rattle.ring.proofs.judge.strands_of.Statement.{statement}
@@ -18,12 +18,14 @@ has-strands-requires c κs = search needs
 
 returns-2 : tie.Need-returns-2
 returns-2 c =
-    let k = sym (c .before .before .before .is-known .ensures) ∙ not-false _ (c .before .before .if1 .left) in
+    let is-known = (let p : tie.After-is-known = search in p .is-known) in
+    let k = sym (is-known .ensures) ∙ not-false _ (c .before .before .if1 .left) in
     sym (strands-both _ k (sym (c .before .has-strands .ensures) ∙ c .if2 .taken))
 
 returns-3 : tie.Need-returns-3
 returns-3 c =
-    let k = sym (c .before .before .before .is-known .ensures) ∙ not-false _ (c .before .before .if1 .left) in
+    let is-known = (let p : tie.After-is-known = search in p .is-known) in
+    let k = sym (is-known .ensures) ∙ not-false _ (c .before .before .if1 .left) in
     sym (strands-own _ k (sym (c .before .has-strands .ensures) ∙ c .if2 .left))
 
 pub strands-of-spec : {M : Type 1} → statement M

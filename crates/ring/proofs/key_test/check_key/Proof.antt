@@ -23,7 +23,9 @@ done-with-requires : tie.Need-done-with-requires
 done-with-requires c κs = search needs
 
 returns-2 : tie.Need-returns-2
-returns-2 c = c .done-with .ensures ∙ by-done _ _ _ _ (sym (c .before .before .before .judge-key .ensures) ∙ c .before .enum-told .given .1)
+returns-2 c =
+    let judge-key = (let p : tie.After-judge-key = search in p .judge-key) in
+    c .done-with .ensures ∙ by-done _ _ _ _ (sym (judge-key .ensures) ∙ c .before .enum-told .given .1)
 
 pub check-key-spec : {M : Type 1} → statement M
 check-key-spec =

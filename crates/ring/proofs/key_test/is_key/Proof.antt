@@ -10,34 +10,55 @@ facing-table-requires : tie.Need-facing-table-requires
 facing-table-requires c κs = search needs
 
 first-run-requires : tie.Need-first-run-requires
-first-run-requires c κs = (search needs, c .before .before .before .pre .some)
+first-run-requires c κs =
+    let pre = (let p : tie.Start = search in p .pre) in
+    (search needs, pre .some)
 
 returns : tie.Need-returns
-returns c = test-more _ _ _ _ (c .before .before .before .before .before .before .pre) _ _ (c .before .before .first-run .ensures) (c .if1 .taken)
+returns c =
+    let pre = (let p : tie.Start = search in p .pre) in
+    test-more _ _ _ _ (pre) _ _ (c .before .before .first-run .ensures) (c .if1 .taken)
 
 returns-2 : tie.Need-returns-2
-returns-2 c = test-late _ _ _ _ (c .before .before .before .before .before .before .before .before .pre) _ _ (c .before .before .before .before .first-run .ensures) (c .before .before .if1 .left) (search needs)
+returns-2 c =
+    let pre = (let p : tie.Start = search in p .pre) in
+    let first-run = (let p : tie.After-first-run = search in p .first-run) in
+    test-late _ _ _ _ (pre) _ _ (first-run .ensures) (c .before .before .if1 .left) (search needs)
 
 has-strands-requires : tie.Need-has-strands-requires
 has-strands-requires c κs = search needs
 
 returns-3 : tie.Need-returns-3
 returns-3 c =
+    let pre = (let p : tie.Start = search in p .pre) in
+    let first-run = (let p : tie.After-first-run = search in p .first-run) in
+    let if1 = (let p : tie.Else1 = search in p .if1) in
+    let if2 = (let p : tie.Else2 = search in p .if2) in
     let k = sym (c .before .before .has-strands .ensures) ∙ c .before .if3 .taken in
-    test-strand _ _ _ _ (c .before .before .before .before .before .before .before .before .before .before .before .pre) _ _ (c .before .before .before .before .before .before .before .first-run .ensures) (c .before .before .before .before .before .if1 .left) (c .before .before .before .if2 .left) k (c .if4 .taken)
+    test-strand _ _ _ _ (pre) _ _ (first-run .ensures) (if1 .left) (if2 .left) k (c .if4 .taken)
 
 left-to-requires : tie.Need-left-to-requires
-left-to-requires c κs = c .before .before .before .before .before .before .before .before .before .before .before .pre .some
+left-to-requires c κs =
+    let pre = (let p : tie.Start = search in p .pre) in
+    pre .some
 
 returns-4 : tie.Need-returns-4
 returns-4 c =
-    let k = sym (c .before .before .before .has-strands .ensures) ∙ c .before .before .if3 .taken in
-    test-left _ _ _ _ (c .before .before .before .before .before .before .before .before .before .before .before .before .pre) _ _ (c .before .before .before .before .before .before .before .before .first-run .ensures) (c .before .before .before .before .before .before .if1 .left) (c .before .before .before .before .if2 .left) k (c .before .if4 .left) _ (c .left-to .ensures)
+    let has-strands = (let p : tie.After-has-strands = search in p .has-strands) in
+    let pre = (let p : tie.Start = search in p .pre) in
+    let first-run = (let p : tie.After-first-run = search in p .first-run) in
+    let if1 = (let p : tie.Else1 = search in p .if1) in
+    let if2 = (let p : tie.Else2 = search in p .if2) in
+    let k = sym (has-strands .ensures) ∙ c .before .before .if3 .taken in
+    test-left _ _ _ _ (pre) _ _ (first-run .ensures) (if1 .left) (if2 .left) k (c .before .if4 .left) _ (c .left-to .ensures)
 
 returns-5 : tie.Need-returns-5
 returns-5 c =
+    let pre = (let p : tie.Start = search in p .pre) in
+    let first-run = (let p : tie.After-first-run = search in p .first-run) in
+    let if1 = (let p : tie.Else1 = search in p .if1) in
     let k = sym (c .before .has-strands .ensures) ∙ c .if3 .left in
-    test-plain _ _ _ _ (c .before .before .before .before .before .before .before .before .before .before .pre) _ _ (c .before .before .before .before .before .before .first-run .ensures) (c .before .before .before .before .if1 .left) (c .before .before .if2 .left) k
+    test-plain _ _ _ _ (pre) _ _ (first-run .ensures) (if1 .left) (c .before .before .if2 .left) k
 
 pub is-key-spec : {M : Type 1} → statement M
 is-key-spec =

@@ -26,17 +26,22 @@ is-key-requires c κs = taken-permitted _ _ _ (sym (c .before .before .judge .en
 
 returns-2 : tie.Need-returns-2
 returns-2 c =
-    let p = taken-permitted _ _ _ (sym (c .before .before .before .before .judge .ensures) ∙ c .before .before .enum-told .given .1) .0 in
+    let judge = (let p : tie.After-judge = search in p .judge) in
+    let p = taken-permitted _ _ _ (sym (judge .ensures) ∙ c .before .before .enum-told .given .1) .0 in
     sym (key-not _ _ _ _ _ p (sym (c .before .is-key .ensures) ∙ not-true _ (c .if1 .taken)))
 
 returns-3 : tie.Need-returns-3
 returns-3 c =
-    let p = taken-permitted _ _ _ (sym (c .before .before .before .before .before .judge .ensures) ∙ c .before .before .before .enum-told .given .1) .0 in
+    let judge = (let p : tie.After-judge = search in p .judge) in
+    let told = (let p : tie.After-enum-told = search in p .enum-told) in
+    let p = taken-permitted _ _ _ (sym (judge .ensures) ∙ told .given .1) .0 in
     sym (key-short _ _ _ _ _ p (sym (c .before .before .is-key .ensures) ∙ not-false _ (c .before .if1 .left)) (c .if2 .taken))
 
 returns-4 : tie.Need-returns-4
 returns-4 c =
-    let p = taken-permitted _ _ _ (sym (c .before .before .before .before .before .judge .ensures) ∙ c .before .before .before .enum-told .given .1) .0 in
+    let judge = (let p : tie.After-judge = search in p .judge) in
+    let told = (let p : tie.After-enum-told = search in p .enum-told) in
+    let p = taken-permitted _ _ _ (sym (judge .ensures) ∙ told .given .1) .0 in
     sym (key-taken _ _ _ _ _ p (sym (c .before .before .is-key .ensures) ∙ not-false _ (c .before .if1 .left)) (c .if2 .left))
 
 pub judge-key-spec : {M : Type 1} → statement M

@@ -13,7 +13,11 @@ same-length : tie.Need-same-length
 same-length c = search needs
 
 returns : tie.Need-returns
-returns c = let s = c .before .before .before .before .before .before .before .args in c .before .before .put-reading .ensures ∙ rw (deposit-other (s .letters .now) (s .start) (s .strand) (c .before .before .before .before .if1 .taken) (c .before .before .before .before .before .before .before .pre .0))
+returns c =
+    let args = (let p : tie.Start = search in p .args) in
+    let if1 = (let p : tie.Then1 = search in p .if1) in
+    let pre = (let p : tie.Start = search in p .pre) in
+    let s = args in c .before .before .put-reading .ensures ∙ rw (deposit-other (s .letters .now) (s .start) (s .strand) (if1 .taken) (pre .0))
 
 sub-put-reading : tie.Need-sub-put-reading
 sub-put-reading c = search needs
@@ -25,7 +29,10 @@ same-length-2 : tie.Need-same-length-2
 same-length-2 c = search needs
 
 returns-2 : tie.Need-returns-2
-returns-2 c = let s = c .before .before .before .before .before .before .before .args in c .before .before .put-reading2 .ensures ∙ rw (deposit-own (s .letters .now) (s .start) (s .strand) (c .before .before .before .before .if1 .left))
+returns-2 c =
+    let args = (let p : tie.Start = search in p .args) in
+    let if1 = (let p : tie.Else1 = search in p .if1) in
+    let s = args in c .before .before .put-reading2 .ensures ∙ rw (deposit-own (s .letters .now) (s .start) (s .strand) (if1 .left))
 
 pub put-deposit-spec : {M : Type 1} → statement M
 put-deposit-spec =

@@ -21,15 +21,16 @@ refused-requires c κs = search needs
 
 returns : tie.Need-returns
 returns c =
-    let s = c .before .before .before .before .before .args in
+    let s = (let p : tie.Start = search in p .args) in
     let v = c .before .before .judge-key in
     let t = not-taken (v .result) (c .before .match .keys2) in
     (c .refused .ensures ∙ by-refused _ _ _ (v .result) _ (v .ensures) t, room-refused (v .result) _ (v .ensures) t (deposit (s .letters .now) (s .start) (s .strand)) (s .room .now))
 
 put-deposit-requires : tie.Need-put-deposit-requires
 put-deposit-requires c κs =
-    let s = c .before .before .before .before .before .before .args in
-    deposit-fits (s .kind) (s .letters .now) (s .start) (s .strand) (length (s .room .now)) (sym (c .before .before .before .judge-key .ensures) ∙ c .before .enum-told .given .1)
+    let s = (let p : tie.Start = search in p .args) in
+    let judge-key = (let p : tie.After-judge-key = search in p .judge-key) in
+    deposit-fits (s .kind) (s .letters .now) (s .start) (s .strand) (length (s .room .now)) (sym (judge-key .ensures) ∙ c .before .enum-told .given .1)
 
 done-with-requires : tie.Need-done-with-requires
 done-with-requires c κs = search needs
@@ -39,9 +40,12 @@ same-length c = search needs
 
 returns-2 : tie.Need-returns-2
 returns-2 c =
-    let s = c .before .before .before .before .before .before .before .before .before .before .args in
-    let e = sym (c .before .before .before .before .before .before .before .judge-key .ensures) ∙ c .before .before .before .before .before .enum-told .given .1 in
-    (c .done-with .ensures ∙ by-done _ _ _ _ e, c .before .before .before .put-deposit .ensures ∙ room-done _ e (deposit (s .letters .now) (s .start) (s .strand)) (s .room .now))
+    let s = (let p : tie.Start = search in p .args) in
+    let judge-key = (let p : tie.After-judge-key = search in p .judge-key) in
+    let told = (let p : tie.After-enum-told = search in p .enum-told) in
+    let put-deposit = (let p : tie.After-put-deposit = search in p .put-deposit) in
+    let e = sym (judge-key .ensures) ∙ told .given .1 in
+    (c .done-with .ensures ∙ by-done _ _ _ _ e, put-deposit .ensures ∙ room-done _ e (deposit (s .letters .now) (s .start) (s .strand)) (s .room .now))
 
 pub write-deposit-spec : {M : Type 1} → statement M
 write-deposit-spec =

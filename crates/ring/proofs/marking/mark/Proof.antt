@@ -24,7 +24,9 @@ marks-of-requires : tie.Need-marks-of-requires
 marks-of-requires c κs = taken-permitted _ _ _ (sym (c .before .before .judge .ensures) ∙ c .enum-told .given .1) .0 .some
 
 returns-2 : tie.Need-returns-2
-returns-2 c = marked-done _ _ _ (c .marks-of .ensures) _ (sym (c .before .before .before .judge .ensures) ∙ c .before .enum-told .given .1)
+returns-2 c =
+    let judge = (let p : tie.After-judge = search in p .judge) in
+    marked-done _ _ _ (c .marks-of .ensures) _ (sym (judge .ensures) ∙ c .before .enum-told .given .1)
 
 pub mark-spec : {M : Type 1} → statement M
 mark-spec = tie.close (tie.spec judge-requires enum-told refused-requires returns marks-of-requires returns-2)

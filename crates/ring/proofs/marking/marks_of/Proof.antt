@@ -16,7 +16,9 @@ chosen-requires : tie.Need-chosen-requires
 chosen-requires c κs = search needs
 
 returns : tie.Need-returns
-returns c = c .chosen .ensures ∙ marks-stranded _ _ (sym (c .before .before .before .has-strands .ensures) ∙ c .before .before .if1 .taken) _ (c .before .read-strands .ensures)
+returns c =
+    let has-strands = (let p : tie.After-has-strands = search in p .has-strands) in
+    c .chosen .ensures ∙ marks-stranded _ _ (sym (has-strands .ensures) ∙ c .before .before .if1 .taken) _ (c .before .read-strands .ensures)
 
 facing-table-requires : tie.Need-facing-table-requires
 facing-table-requires c κs = search needs
@@ -28,7 +30,10 @@ done-with-requires : tie.Need-done-with-requires
 done-with-requires c κs = search needs
 
 returns-2 : tie.Need-returns-2
-returns-2 c = c .done-with .ensures ∙ marks-plain _ _ (sym (c .before .before .before .before .before .has-strands .ensures) ∙ c .before .before .before .before .if1 .left) _ (c .before .start-of .ensures)
+returns-2 c =
+    let has-strands = (let p : tie.After-has-strands = search in p .has-strands) in
+    let if1 = (let p : tie.Else1 = search in p .if1) in
+    c .done-with .ensures ∙ marks-plain _ _ (sym (has-strands .ensures) ∙ if1 .left) _ (c .before .start-of .ensures)
 
 pub marks-of-spec : {M : Type 1} → statement M
 marks-of-spec =

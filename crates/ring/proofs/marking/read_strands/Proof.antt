@@ -18,16 +18,24 @@ start-of-requires-2 c κs = search needs
 
 lower-requires : tie.Need-lower-requires
 lower-requires c κs =
-    let h = c .before .before .before .before .before .before .before .pre in
-    let a = found-within 0 _ _ (c .before .before .before .start-of .ensures) h in
+    let pre = (let p : tie.Start = search in p .pre) in
+    let start-of = (let p : tie.After-start-of = search in p .start-of) in
+    let h = pre in
+    let a = found-within 0 _ _ (start-of .ensures) h in
     let b = found-within 1 _ _ (c .before .start-of2 .ensures) h in
     search needs
 
 returns : tie.Need-returns
-returns c = strands-by _ _ _ (c .before .before .before .before .before .start-of .ensures) (c .before .before .before .start-of2 .ensures) true 1 (sym (c .if1 .taken) ∙ c .before .lower .ensures) refl
+returns c =
+    let start-of = (let p : tie.After-start-of = search in p .start-of) in
+    let start-of2 = (let p : tie.After-start-of2 = search in p .start-of2) in
+    strands-by _ _ _ (start-of .ensures) (start-of2 .ensures) true 1 (sym (c .if1 .taken) ∙ c .before .lower .ensures) refl
 
 returns-2 : tie.Need-returns-2
-returns-2 c = strands-by _ _ _ (c .before .before .before .before .before .start-of .ensures) (c .before .before .before .start-of2 .ensures) false 0 (sym (c .if1 .left) ∙ c .before .lower .ensures) refl
+returns-2 c =
+    let start-of = (let p : tie.After-start-of = search in p .start-of) in
+    let start-of2 = (let p : tie.After-start-of2 = search in p .start-of2) in
+    strands-by _ _ _ (start-of .ensures) (start-of2 .ensures) false 0 (sym (c .if1 .left) ∙ c .before .lower .ensures) refl
 
 pub read-strands-spec : {M : Type 1} → statement M
 read-strands-spec =

@@ -4,8 +4,8 @@ use Prim.Native.Nat.{_-_}
 use native.Mathlib.Omega.{arith}
 use borrow.Author.Needs.{needs}
 use lib.ListN.{length}
-use Rattle.words.specs.Match.{Match}
-use Rattle.words.proofs.Match.{match-more}
+use Rattle.words.specs.repeats.Match.{Match}
+use Rattle.words.proofs.repeats.Match.{match-more}
 use Rattle.ring.proofs.matches.extend.Statement.{statement}
 use Rattle.ring.proofs.matches.extend.Tie as tie
 

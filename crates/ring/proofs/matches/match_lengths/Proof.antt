@@ -1,12 +1,12 @@
--- `matches::match_lengths` meets its contract. The invariant is the box of `Rattle.words.proofs.Match`.
+-- `matches::match_lengths` meets its contract. The invariant is the box of `Rattle.words.proofs.repeats.Match`.
 -- Assumes nothing.
 use mathlib.Core.Path.{_∙_}
 use Prim.Native.Nat.{_-_}
 use native.Mathlib.Omega.{arith}
 use borrow.Author.Needs.{needs}
 use lib.ListN.{length, length-set}
-use Rattle.words.proofs.Search.{either}
-use Rattle.words.proofs.Match.{Box, match-none, box-first, box-guess, box-new, box-old, box-end}
+use Rattle.words.proofs.order.Search.{either}
+use Rattle.words.proofs.repeats.Match.{Box, match-none, box-first, box-guess, box-new, box-old, box-end}
 use Rattle.ring.proofs.matches.match_lengths.Statement.{statement}
 use Rattle.ring.proofs.matches.match_lengths.Tie as tie
 

@@ -5,7 +5,7 @@ use Prim.Native.Nat.{_-_}
 use native.Mathlib.Omega.{arith}
 use borrow.Author.Needs.{needs}
 use lib.ListN.{length}
-use Rattle.words.proofs.Repeat.{Sought, sought-first, sought-found, sought-next, sought-all}
+use Rattle.words.proofs.repeats.Repeat.{Sought, sought-first, sought-found, sought-next, sought-all}
 use Rattle.ring.proofs.periods.first_period.Statement.{statement}
 use Rattle.ring.proofs.periods.first_period.Tie as tie
 

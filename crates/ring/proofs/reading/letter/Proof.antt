@@ -10,7 +10,9 @@ letter-at-requires : tie.Need-letter-at-requires
 letter-at-requires c κs = search needs
 
 returns : tie.Need-returns
-returns c = let s = c .before .before .before .args in c .letter-at .ensures ∙ sym (around-near (s .strand) (s .s .now) (s .i) (search needs))
+returns c =
+    let args = (let p : tie.Start = search in p .args) in
+    let s = args in c .letter-at .ensures ∙ sym (around-near (s .strand) (s .s .now) (s .i) (search needs))
 
 sub-letter-at : tie.Need-sub-letter-at
 sub-letter-at c = search needs
@@ -19,7 +21,9 @@ letter-at-requires-2 : tie.Need-letter-at-requires-2
 letter-at-requires-2 c κs = search needs
 
 returns-2 : tie.Need-returns-2
-returns-2 c = let s = c .before .before .before .args in c .letter-at2 .ensures ∙ sym (around-far (s .strand) (s .s .now) (s .i) (search needs) (search needs))
+returns-2 c =
+    let args = (let p : tie.Start = search in p .args) in
+    let s = args in c .letter-at2 .ensures ∙ sym (around-far (s .strand) (s .s .now) (s .i) (search needs) (search needs))
 
 pub letter-spec : {M : Type 1} → statement M
 letter-spec =

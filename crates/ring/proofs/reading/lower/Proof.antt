@@ -10,7 +10,7 @@ meet-requires c κs = search needs
 
 returns : tie.Need-returns
 returns c =
-    let s = c .before .before .before .before .args in
+    let s = (let p : tie.Start = search in p .args) in
     lower-same (s .x) (s .y) (s .u .now) (s .v .now) (s .i) (s .j) _ (search needs) (search needs) (search needs) (c .before .meet .ensures .0) (search needs)
 
 add-letter : tie.Need-add-letter
@@ -27,8 +27,9 @@ letter-requires-2 c κs = search needs
 
 returns-2 : tie.Need-returns-2
 returns-2 c =
-    let s = c .before .before .before .before .before .before .args in
-    lower-at (s .x) (s .y) (s .u .now) (s .v .now) (s .i) (s .j) _ (search needs) (search needs) (search needs) (c .before .before .before .meet .ensures .0) (search needs) _ _ (c .before .letter .ensures) (c .letter2 .ensures)
+    let s = (let p : tie.Start = search in p .args) in
+    let meet = (let p : tie.After-meet = search in p .meet) in
+    lower-at (s .x) (s .y) (s .u .now) (s .v .now) (s .i) (s .j) _ (search needs) (search needs) (search needs) (meet .ensures .0) (search needs) _ _ (c .before .letter .ensures) (c .letter2 .ensures)
 
 pub lower-spec : {M : Type 1} → statement M
 lower-spec =

@@ -2,10 +2,10 @@
 -- Assumes nothing.
 use mathlib.Core.Path.{sym, _∙_}
 use borrow.Author.Needs.{needs}
-use Rattle.words.specs.Ring.{reading}
-use Rattle.words.specs.Strand.{onStrand}
-use Rattle.words.proofs.Order.{irrefl}
-use Rattle.words.proofs.Ring.{better-old}
+use Rattle.words.specs.rings.Ring.{reading}
+use Rattle.words.specs.keys.Strand.{onStrand}
+use Rattle.words.proofs.order.Order.{irrefl}
+use Rattle.words.proofs.rings.Ring.{better-old}
 use Rattle.ring.proofs.reading.lower_of.Statement.{statement}
 use Rattle.ring.proofs.reading.lower_of.Tie as tie
 

@@ -4,8 +4,8 @@ use mathlib.Core.Path.{sym, _∙_}
 use Prim.Native.Nat.{_≤_, _-_}
 use borrow.Author.Needs.{needs}
 use borrow.Author.Count.{below-more}
-use Rattle.words.specs.Paired.{Paired}
-use Rattle.words.specs.Strand.{onStrand}
+use Rattle.words.specs.duels.Paired.{Paired}
+use Rattle.words.specs.keys.Strand.{onStrand}
 use Rattle.ring.proofs.OnStrand.{met-all, met-differs}
 use Rattle.ring.proofs.reading.meet.Statement.{statement}
 use Rattle.ring.proofs.reading.meet.Tie as tie
@@ -39,17 +39,20 @@ loop-less c = search needs
 
 loop-again : tie.Need-loop-again Inv-loop μ-loop
 loop-again c =
-    (search needs, below-more _ _ (c .before .before .before .before .loop .inv .1) (sym (c .before .before .letter .ensures) ∙ c .if1 .left ∙ c .before .letter2 .ensures))
+    let kept = (let p : tie.At-loop Inv-loop μ-loop = search in p .loop) in
+    (search needs, below-more _ _ (kept .inv .1) (sym (c .before .before .letter .ensures) ∙ c .if1 .left ∙ c .before .letter2 .ensures))
 
 returns : tie.Need-returns Inv-loop μ-loop
 returns c =
-    let s = c .before .before .before .before .args in
+    let s = (let p : tie.Start Inv-loop μ-loop = search in p .args) in
     (met-all (s .x) (s .y) (s .u .now) (s .v .now) (s .i) (s .j) _ (search needs) (search needs) (c .before .loop .inv .1), search needs)
 
 returns-2 : tie.Need-returns-2 Inv-loop μ-loop
 returns-2 c =
-    let s = c .before .before .before .before .before .before .before .args in (
-      met-differs (s .x) (s .y) (s .u .now) (s .v .now) (s .i) (s .j) _ (search needs) (c .before .before .before .before .loop .inv .1)
+    let args = (let p : tie.Start Inv-loop μ-loop = search in p .args) in
+    let kept = (let p : tie.At-loop Inv-loop μ-loop = search in p .loop) in
+    let s = args in (
+      met-differs (s .x) (s .y) (s .u .now) (s .v .now) (s .i) (s .j) _ (search needs) (kept .inv .1)
           (λ e. c .if1 .taken (c .before .before .letter .ensures ∙ e ∙ sym (c .before .letter2 .ensures))),
       search needs,
     )

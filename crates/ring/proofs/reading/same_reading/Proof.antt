@@ -10,7 +10,7 @@ meet-requires c κs = search needs
 
 returns : tie.Need-returns
 returns c =
-    let s = c .before .before .before .args in
+    let s = (let p : tie.Start = search in p .args) in
     same-met (s .x) (s .y) (s .u .now) (s .v .now) (s .i) (s .j) _ (search needs) (search needs) (search needs) (c .meet .ensures .0)
 
 pub same-reading-spec : {M : Type 1} → statement M

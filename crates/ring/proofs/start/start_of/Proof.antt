@@ -5,19 +5,14 @@ use Prim.Native.Nat.{_+_, _≤_, _-_}
 use mathlib.Core.Path.{_≡_}
 use native.Mathlib.Omega.{arith}
 use lib.ListN.{length, drop, length-drop}
-use Rattle.words.specs.Factor.{FirstRun}
-use Rattle.words.specs.Strand.{onStrand}
-use Rattle.words.proofs.Factor.{run-within, run-word, run-size}
-use Rattle.words.proofs.Run.{Best, best-none, best-next, best-last, best-below}
-use Rattle.words.proofs.Strand.{length-strand}
+use Rattle.words.specs.factors.Factor.{FirstRun}
+use Rattle.words.specs.keys.Strand.{onStrand}
+use Rattle.words.proofs.factors.Factor.{run-within, run-word, run-size}
+use Rattle.words.proofs.factors.Run.{Best, best-none, best-next, best-last, best-below}
+use Rattle.words.proofs.keys.Strand.{length-strand}
 use Rattle.ring.proofs.OnStrand.{length-back}
 use Rattle.ring.proofs.start.start_of.Statement.{statement}
 use Rattle.ring.proofs.start.start_of.Tie as tie
-use Rattle.ring.proofs.start.start_of.Reads as reads
-use Rattle.ring.proofs.start.start_of.Lts as lts
-use Rattle.ring.proofs.strand.back_of.Reads as back-of-reads
-use Rattle.ring.proofs.factor.first_run.Reads as first-run-reads
-use Rattle.ring.proofs.reading.lower_of.Reads as lower-of-reads
 
 abbrev Inv-loop : tie.InvT-loop
 Inv-loop facing s strand n best₀ m₀ best m = (n ≡ length s) × (length (onStrand strand s) ≡ n) × (m ≤ n) × Best (onStrand strand s) m best
@@ -25,18 +20,18 @@ Inv-loop facing s strand n best₀ m₀ best m = (n ≡ length s) × (length (on
 abbrev μ-loop : tie.MeasureT-loop
 μ-loop facing s strand n best₀ m₀ best m = n - m
 
-abbrev Searched : Type 0
-Searched = lts.After-first-run (back-of-reads.Asked, back-of-reads.Learnt, first-run-reads.Asked, first-run-reads.Learnt, lower-of-reads.Asked, lower-of-reads.Learnt) reads.Pre reads.Post Inv-loop μ-loop
-
 -- the first run of the letters from m on
-run-at : (c : Searched) → FirstRun (drop (c .before .before .before .loop .m) (onStrand (c .before .before .before .before .before .args .strand) (c .before .before .before .before .before .args .s .now))) (c .first-run .result .size) (c .first-run .result .end)
+run-at : (c : tie.After-first-run Inv-loop μ-loop) → let s : tie.Start Inv-loop μ-loop = search in let l : tie.At-loop Inv-loop μ-loop = search in
+    FirstRun (drop (l .loop .m) (onStrand (s .args .strand) (s .args .s .now))) (c .first-run .result .size) (c .first-run .result .end)
 run-at c = rw (c .before .back-of .ensures) at (c .first-run .ensures)
 
-run-fits : (c : Searched) → c .before .before .before .loop .m + c .first-run .result .end ≤ length (c .before .before .before .before .before .args .s .now)
+run-fits : (c : tie.After-first-run Inv-loop μ-loop) → let s : tie.Start Inv-loop μ-loop = search in let l : tie.At-loop Inv-loop μ-loop = search in
+    l .loop .m + c .first-run .result .end ≤ length (s .args .s .now)
 run-fits c =
-    let s = c .before .before .before .before .before .args in
-    let i = c .before .before .before .loop .inv in
-    omega (arith, run-within _ _ _ (run-at c), length-drop (c .before .before .before .loop .m) (onStrand (s .strand) (s .s .now)))
+    let s = (let p : tie.Start Inv-loop μ-loop = search in p .args) in
+    let l = (let p : tie.At-loop Inv-loop μ-loop = search in p .loop) in
+    let i = l .inv in
+    omega (arith, run-within _ _ _ (run-at c), length-drop (l .m) (onStrand (s .strand) (s .s .now)))
 
 loop-holds : tie.Need-loop-holds Inv-loop μ-loop
 loop-holds c = let s = c .before .args in (search needs, length-strand (s .strand) (s .s .now), search needs, best-none _)
@@ -45,10 +40,15 @@ back-of-requires : tie.Need-back-of-requires Inv-loop μ-loop
 back-of-requires c κs = search needs
 
 first-run-requires : tie.Need-first-run-requires Inv-loop μ-loop
-first-run-requires c κs = let s = c .before .before .before .before .args in (search needs, omega (arith, length-back (s .strand) (s .s .now) (c .back-of .result .now) (c .before .before .loop .m) (c .back-of .ensures)))
+first-run-requires c κs =
+    let s = (let p : tie.Start Inv-loop μ-loop = search in p .args) in
+    (search needs, omega (arith, length-back (s .strand) (s .s .now) (c .back-of .result .now) (c .before .before .loop .m) (c .back-of .ensures)))
 
 lower-of-requires : tie.Need-lower-of-requires Inv-loop μ-loop
-lower-of-requires c κs = let i = c .before .before .before .loop .inv in let n = i .1 in (search needs, search needs, omega (arith, best-below _ _ _ (omega arith) (i .3)))
+lower-of-requires c κs =
+    let i = (let p : tie.At-loop Inv-loop μ-loop = search in p .loop .inv) in
+    let n = i .1 in
+    (search needs, search needs, omega (arith, best-below _ _ _ (omega arith) (i .3)))
 
 add-m : tie.Need-add-m Inv-loop μ-loop
 add-m c = omega (arith, run-fits (c .before .before))
@@ -60,15 +60,16 @@ loop-less c =
 
 loop-again : tie.Need-loop-again Inv-loop μ-loop
 loop-again c =
+    let kept = (let p : tie.At-loop Inv-loop μ-loop = search in p .loop) in
     let d = c .before .before in
-    let i = c .before .before .before .before .before .loop .inv in
+    let i = kept .inv in
     let b = best-next _ _ _ _ (run-at d) _ (omega arith) (i .3) in
     (search needs, i .1, run-fits d, rw (c .before .lower-of .ensures) b)
 
 returns : tie.Need-returns Inv-loop μ-loop
 returns c =
+    let s = (let p : tie.Start Inv-loop μ-loop = search in p .args) in
     let i = c .before .loop .inv in
-    let s = c .before .before .before .args in
     let e : c .before .loop .m ≡ length (onStrand (s .strand) (s .s .now)) = omega arith in
     best-last _ _ (omega arith) (rw e at (i .3))
 

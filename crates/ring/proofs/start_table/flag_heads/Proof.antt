@@ -7,9 +7,9 @@ use native.Mathlib.Omega.{arith}
 use borrow.Author.Needs.{needs}
 use lib.ListN.{take, drop, length-drop, length}
 use lib.Seq.{take-all}
-use Rattle.words.specs.Factor.{FirstRun}
-use Rattle.words.proofs.Factor.{run-within}
-use Rattle.words.proofs.StartTable.{Flagging, flagging-none, flagging-low, flagging-next, flagged-head, run-some}
+use Rattle.words.specs.factors.Factor.{FirstRun}
+use Rattle.words.proofs.factors.Factor.{run-within}
+use Rattle.words.proofs.starts.StartTable.{Flagging, flagging-none, flagging-low, flagging-next, flagged-head, run-some}
 use Rattle.ring.specs.Judging.{most}
 use Rattle.ring.proofs.start_table.flag_heads.Statement.{statement}
 use Rattle.ring.proofs.start_table.flag_heads.Tie as tie

@@ -3,7 +3,7 @@
 use mathlib.Core.Path.{sym, ap, _∙_}
 use borrow.Author.Needs.{needs}
 use borrow.Author.Tests.{ltb-false}
-use Rattle.words.proofs.Prefix.{length-startTable}
+use Rattle.words.proofs.suffixes.Prefix.{length-startTable}
 use Rattle.ring.specs.Answers.{checkedAs}
 use Rattle.ring.proofs.Judging.{not-taken}
 use Rattle.ring.proofs.Exactly.{taken-permitted}

@@ -4,8 +4,8 @@ use borrow.Author.Needs.{needs}
 use Prim.Native.Nat.{_-_}
 use mathlib.Core.Path.{_≡_}
 use lib.ListN.{length}
-use Rattle.words.specs.Strand.{onStrand}
-use Rattle.words.proofs.Strand.{length-strand}
+use Rattle.words.specs.keys.Strand.{onStrand}
+use Rattle.words.proofs.keys.Strand.{length-strand}
 use Rattle.ring.proofs.Laid.{Partly, partly-none, partly-one, partly-all}
 use Rattle.ring.proofs.strand.copy.Statement.{statement}
 use Rattle.ring.proofs.strand.copy.Tie as tie
@@ -33,14 +33,16 @@ loop-less c = search needs
 
 loop-again : tie.Need-loop-again Inv-loop μ-loop
 loop-again c =
-    let s = c .before .before .before .before .before .args in
+    let s = (let p : tie.Start Inv-loop μ-loop = search in p .args) in
     (search needs, partly-one _ _ _ _ _ (c .before .before .loop .inv .1) (rw (length-strand (s .strand) (s .from .now)) (search needs)) (c .letter-at .ensures), search needs)
 
 same-length : tie.Need-same-length Inv-loop μ-loop
 same-length c = search needs
 
 returns : tie.Need-returns Inv-loop μ-loop
-returns c = let s = c .before .before .before .before .args in partly-all _ _ _ _ (c .before .loop .inv .1) (rw (length-strand (s .strand) (s .from .now)) (search needs))
+returns c =
+    let args = (let p : tie.Start Inv-loop μ-loop = search in p .args) in
+    let s = args in partly-all _ _ _ _ (c .before .loop .inv .1) (rw (length-strand (s .strand) (s .from .now)) (search needs))
 
 pub copy-spec : {M : Type 1} → statement M
 copy-spec =

@@ -19,13 +19,17 @@ look-up-requires : tie.Need-look-up-requires
 look-up-requires c κs = search needs
 
 returns : tie.Need-returns
-returns c = let s = c .before .before .before .before .args in c .look-up .ensures ∙ sym (at-opposite (s .strand) (s .s .now) (c .before .before .if1 .taken) (s .i) (search needs))
+returns c =
+    let args = (let p : tie.Start = search in p .args) in
+    let s = args in c .look-up .ensures ∙ sym (at-opposite (s .strand) (s .s .now) (c .before .before .if1 .taken) (s .i) (search needs))
 
 shared-slice-read-result : tie.Need-shared-slice-read-result
 shared-slice-read-result c = search needs
 
 returns-2 : tie.Need-returns-2
-returns-2 c = let s = c .before .before .before .args in sym (at-own (s .strand) (s .s .now) (c .before .if1 .left) (s .i))
+returns-2 c =
+    let args = (let p : tie.Start = search in p .args) in
+    let s = args in sym (at-own (s .strand) (s .s .now) (c .before .if1 .left) (s .i))
 
 pub letter-at-spec : {M : Type 1} → statement M
 letter-at-spec =

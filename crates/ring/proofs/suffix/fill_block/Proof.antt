@@ -6,8 +6,8 @@ use native.Mathlib.Omega.{arith}
 use native.Mathlib.Nat.{mod-le, mod-lt}
 use borrow.Author.Needs.{needs}
 use lib.ListN.{length, length-set}
-use Rattle.words.proofs.Search.{either}
-use Rattle.words.proofs.Fill.{Block, Filled, block-first, block-greater, block-equal, block-end, filled-less, filled-again, filled-on, filled-below, fill-first, fill-greater, fill-equal}
+use Rattle.words.proofs.order.Search.{either}
+use Rattle.words.proofs.suffixes.Fill.{Block, Filled, block-first, block-greater, block-equal, block-end, filled-less, filled-again, filled-on, filled-below, fill-first, fill-greater, fill-equal}
 use Rattle.ring.proofs.suffix.fill_block.Statement.{statement}
 use Rattle.ring.proofs.suffix.fill_block.Tie as tie
 

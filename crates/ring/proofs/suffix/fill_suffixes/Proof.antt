@@ -3,9 +3,9 @@
 use Prim.Native.Nat.{_-_}
 use native.Mathlib.Omega.{arith}
 use borrow.Author.Needs.{needs}
-use Rattle.words.proofs.Prefix.{length-suffixTable}
-use Rattle.words.proofs.Block.{Head, head-first}
-use Rattle.words.proofs.Fill.{Filled, filled-none, filled-less, filled-again, filled-on, filled-all}
+use Rattle.words.proofs.suffixes.Prefix.{length-suffixTable}
+use Rattle.words.proofs.suffixes.Block.{Head, head-first}
+use Rattle.words.proofs.suffixes.Fill.{Filled, filled-none, filled-less, filled-again, filled-on, filled-all}
 use Rattle.ring.proofs.suffix.fill_suffixes.Statement.{statement}
 use Rattle.ring.proofs.suffix.fill_suffixes.Tie as tie
 

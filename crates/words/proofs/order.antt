@@ -1,0 +1,3 @@
+-- Searches over numbers, and the order of words
+pub mod Search
+pub mod Order

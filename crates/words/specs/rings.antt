@@ -1,0 +1,2 @@
+-- Readings of a ring, its start, its lowest reading
+pub mod Ring

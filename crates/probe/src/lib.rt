@@ -1,6 +1,7 @@
 // The public calls as plain C functions, for tests and timing. Each gives back the call's number and writes the answer's
-// other fields to `values`, in their order; `values` with fewer entries than that is left alone. Those of `parts` hand
-// back the part itself, by its address and length.
+// other fields to `values`, in their order; `values` with fewer entries than that is left alone. `probe_strands_of` gives the
+// strands and `probe_report` always 0; `probe_key` and `probe_sheet_letters` tell where the part stands and its length. Those
+// of `parts` hand back the part itself, by its address and length.
 mod deposits;
 mod keys;
 mod parts;

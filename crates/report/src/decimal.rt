@@ -41,7 +41,7 @@ fn put_digits(room: &mut [u8], x: usize, k: usize)
 }
 
 // Writes a number to the front of a room, and answers how many bytes it takes.
-pub fn put_number(room: &mut [u8], x: usize) -> usize
+fn put_number(room: &mut [u8], x: usize) -> usize
     requires { ⌜ (x < 100000) × (5 ≤ length (now room)) ⌝ }
     ensures { λ r. ⌜ (r ≡ length (decimal x)) × (r ≤ 5) ⌝ }
     ensures { λ _. ⌜ now (room .exit) ≡ over (decimal x) (now (room .entry)) ⌝ }

@@ -34,9 +34,9 @@ use Rattle.ring.proofs.marking.write_letters.Reads as write-letters-rea
 use Rattle.ring.proofs.key_test.check_key
 use Rattle.ring.proofs.key_test.check_key.Kinds as check-key-kinds
 use Rattle.ring.proofs.key_test.check_key.Reads as check-key-reads
-use Rattle.ring.proofs.key_test.write_deposit
-use Rattle.ring.proofs.key_test.write_deposit.Kinds as write-deposit-kinds
-use Rattle.ring.proofs.key_test.write_deposit.Reads as write-deposit-reads
+use Rattle.ring.proofs.deposits.write_deposit
+use Rattle.ring.proofs.deposits.write_deposit.Kinds as write-deposit-kinds
+use Rattle.ring.proofs.deposits.write_deposit.Reads as write-deposit-reads
 use Rattle.ring.proofs.keys.write_key
 use Rattle.ring.proofs.keys.write_key.Kinds as write-key-kinds
 use Rattle.ring.proofs.keys.write_key.Reads as write-key-reads
@@ -81,7 +81,7 @@ write-key-call κs a r e p = record { answer = p .0; front = p .1 .0; back = p .
 
 pub key-call : (κs : Lifetimes.Lfts 2) (a : World.ArgsD key.signature κs) (r : World.ResD key.signature κs) (e : Clauses.AtExit (Fn.endedOf 2 key-kinds.ps key-kinds.r) κs)
     → key-reads.Post κs a r e → KeyCall (now (a .0)) (a .1 .0) (now (a .1 .1 .0)) (now (a .1 .1 .1 .0)) (a .1 .1 .0 .ptr) (a .1 .1 .1 .0 .ptr) (now r) (r .ptr)
-key-call κs a r e p = record { is = p .0; place = p .1 }
+key-call κs a r e p = record { is = p .0; stands = p .1 }
 
 pub compare-call : (κs : Lifetimes.Lfts 2) (a : World.ArgsD compare.signature κs) (r : World.ResD compare.signature κs) (e : Clauses.AtExit (Fn.endedOf 2 compare-kinds.ps compare-kinds.r) κs)
     → compare-reads.Post κs a r e → CompareCall (now (a .0)) (now (a .1 .0)) (a .1 .1 .0) r

@@ -155,14 +155,14 @@ module _ {w : List ℕ} {kind : ℕ} {first second one two : List ℕ} {m : Mark
       let n : m .n ≡ length w = ap (λ (m : Marked). m .n) (c .answer) ∙ rw (eq-eqb _ 0 (sym number-said ∙ z)) in
       rw (n, c .front, c .back) (rooms-hold kind w first second (sym number-said ∙ z))
 
-  module _ {p q at : ℕ × ℕ} {part : List ℕ} (k : KeyCall w kind first second p q part at) where
+  module _ {p q there : ℕ × ℕ} {part : List ℕ} (k : KeyCall w kind first second p q part there) where
     -- refused: an empty part at the front of the first room
-    pub key-refused : (m .number ≡ 0 → ⊥) → (part ≡ []) × (at ≡ p)
-    key-refused n = let e = part-refused kind w first second (λ z. n (number-said ∙ z)) in (k .is ∙ e .0, k .place ∙ rw (e .1))
+    pub key-refused : (m .number ≡ 0 → ⊥) → (part ≡ []) × (there ≡ p)
+    key-refused n = let e = part-refused kind w first second (λ z. n (number-said ∙ z)) in (k .is ∙ e .0, k .stands ∙ rw (e .1))
 
     -- done: the key, in the room that its strand names
-    pub key-is : m .number ≡ 0 → KeyOf kind w (m .start) (m .strand) part × (at ≡ cond (eqb (m .strand) 1) q p)
-    key-is z = rw (k .is, k .place, c .answer) (rw (part-done kind w first second (sym number-said ∙ z)) (marked-key kind w first second (sym number-said ∙ z)), refl)
+    pub key-is : m .number ≡ 0 → KeyOf kind w (m .start) (m .strand) part × (there ≡ cond (eqb (m .strand) 1) q p)
+    key-is z = rw (k .is, k .stands, c .answer) (rw (part-done kind w first second (sym number-said ∙ z)) (marked-key kind w first second (sym number-said ∙ z)), refl)
 
 -- the room that `write_letters` fills holds the key, with the marks answered
 pub write-letters-key : {w : List ℕ} {kind : ℕ} {room left : List ℕ} {m : Marked} → WriteLettersCall w kind room m left → m .number ≡ 0
@@ -173,7 +173,7 @@ write-letters-key {w} {kind} {room} c z =
     let h : 0 < length w = number-permitted kind w (fewer (length room) w) e .some in
     rw (c .answer, c .leaves, eq-eqb (numberOf v) 0 e) (rw (take-at (key kind w) _ (length w) (length-key kind w h)) (key-of kind w h))
 
--- letters that `check_key` takes are the key of a ring, with this start and strand; `write_deposit` gives that ring back, and no other has the key
+-- the ring that `write_deposit` leaves has these letters for its key, with this start and strand, and no other ring has
 module _ {k : List ℕ} {kind at s : ℕ} {room left : List ℕ} {m : Marked} (c : WriteDepositCall k kind at s room m left) (z : m .number ≡ 0) where
   pub write-deposit-ring : Permitted kind (take (m .n) left) × KeyOf kind (take (m .n) left) at s k
   write-deposit-ring = rw (c .answer, c .leaves) (deposited kind k at s room (ap (λ (m : Marked). m .number) (sym (c .answer)) ∙ z))

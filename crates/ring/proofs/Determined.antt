@@ -11,9 +11,9 @@ use denote.Ref.{now}
 use Rattle.ring.proofs.judge.check
 use Rattle.ring.proofs.judge.check.Kinds as check-kinds
 use Rattle.ring.proofs.judge.check.Reads as check-reads
-use Rattle.ring.proofs.judge.strands_of
-use Rattle.ring.proofs.judge.strands_of.Kinds as strands-of-kinds
-use Rattle.ring.proofs.judge.strands_of.Reads as strands-of-reads
+use Rattle.ring.proofs.kind.strands_of
+use Rattle.ring.proofs.kind.strands_of.Kinds as strands-of-kinds
+use Rattle.ring.proofs.kind.strands_of.Reads as strands-of-reads
 use Rattle.ring.proofs.factor.factors
 use Rattle.ring.proofs.factor.factors.Kinds as factors-kinds
 use Rattle.ring.proofs.factor.factors.Reads as factors-reads
@@ -47,9 +47,9 @@ use Rattle.ring.proofs.marking.write_letters.Reads as write-letters-rea
 use Rattle.ring.proofs.key_test.check_key
 use Rattle.ring.proofs.key_test.check_key.Kinds as check-key-kinds
 use Rattle.ring.proofs.key_test.check_key.Reads as check-key-reads
-use Rattle.ring.proofs.key_test.write_deposit
-use Rattle.ring.proofs.key_test.write_deposit.Kinds as write-deposit-kinds
-use Rattle.ring.proofs.key_test.write_deposit.Reads as write-deposit-reads
+use Rattle.ring.proofs.deposits.write_deposit
+use Rattle.ring.proofs.deposits.write_deposit.Kinds as write-deposit-kinds
+use Rattle.ring.proofs.deposits.write_deposit.Reads as write-deposit-reads
 use Rattle.ring.proofs.marking.refusal
 use Rattle.ring.proofs.marking.refusal.Kinds as refusal-kinds
 use Rattle.ring.proofs.marking.refusal.Reads as refusal-reads

@@ -100,7 +100,7 @@ module _ (kind : ℕ) (w first second : List ℕ) where
 
   module _ (z : numberOf said ≡ 0) where
     done-some : 0 < length w
-    done-some = number-permitted kind w (roomsShort kind w (length first) (length second)) z .some
+    done-some = number-permitted kind w (roomsShort kind (length w) (length first) (length second)) z .some
 
     -- done: the key, with the start and strand answered
     pub marked-key : KeyOf kind w (field said (keyStart kind w)) (field said (strand kind w)) (key kind w)

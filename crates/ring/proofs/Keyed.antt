@@ -19,7 +19,7 @@ use Rattle.ring.specs.declared.judge.Verdict.the-variants.{Taken}
 use Rattle.ring.specs.declared.answer.Marked.{Marked}
 use Rattle.ring.specs.declared.marking.Strands.{Strands}
 use Rattle.ring.specs.Judging.{Permitted, Given, verdict, numberOf, placeOf, taken, field, over, after}
-use Rattle.ring.specs.Strands.{strandsOf, markedOn, refusedBy}
+use Rattle.ring.specs.Strands.{bothStrands, markedOn, refusedBy}
 use Rattle.ring.specs.Answers.{doneWith, roomsShort, keyVerdict, firstRoom, secondRoom}
 use Rattle.ring.specs.Calls.{WriteKeyCall}
 use Rattle.ring.specs.Demands.{lent, AsRuled, LacksRoom}
@@ -28,7 +28,7 @@ use Rattle.ring.proofs.Numbers.{ruled, rooms-few, left-alone, written-b
 use Rattle.ring.proofs.Marks.{by-refused, marked-done, marks-stranded}
 
 -- the verdict on a ring with the rooms of the key
-pub keyed-is : (kind : ℕ) (w : List ℕ) (a b : ℕ) (short : Bool) (v : Verdict) → short ≡ roomsShort kind w a b → v ≡ verdict kind w short → v ≡ keyVerdict kind w a b
+pub keyed-is : (kind : ℕ) (w : List ℕ) (a b : ℕ) (short : Bool) (v : Verdict) → short ≡ roomsShort kind (length w) a b → v ≡ verdict kind w short → v ≡ keyVerdict kind w a b
 keyed-is kind w a b short v f e = e ∙ ap (verdict kind w) f
 
 -- the rooms that a taken ring has
@@ -41,7 +41,7 @@ module _ (kind : ℕ) (w : List ℕ) (a b : ℕ) (e : keyVerdict kind w a b ≡ 
 
   pub second-fits : stranded kind ≡ true → length w ≤ b
   second-fits k =
-      let t = neither (ltb a (length w)) (stranded kind && ltb b (length w)) (taken-permitted kind w (roomsShort kind w a b) e .1) .1 in
+      let t = neither (ltb a (length w)) (stranded kind && ltb b (length w)) (taken-permitted kind w (roomsShort kind (length w) a b) e .1) .1 in
       ltb-false b (length w) (simp k at t)
 
 module _ (kind : ℕ) (w first second : List ℕ) where
@@ -63,7 +63,7 @@ module _ (kind : ℕ) (w first second : List ℕ) where
     unfolding lowest strand keyStart
     keyed-plain k m one x f = record { answer = marked-done kind w m x _ e; front = f ∙ rw (x, g, k); back = rw k }
 
-    pub keyed-stranded : stranded kind ≡ true → (s : Strands) (m : Marked) (one two : List ℕ) → s ≡ strandsOf w → m ≡ markedOn s (length w)
+    pub keyed-stranded : stranded kind ≡ true → (s : Strands) (m : Marked) (one two : List ℕ) → s ≡ bothStrands w → m ≡ markedOn s (length w)
         → one ≡ over (reading w (s .own)) first → two ≡ over (reading (opposite w) (s .other)) second → WriteKeyCall w kind first second m one two
     unfolding lowest
     keyed-stranded k s m one two x q f h = record {
@@ -100,7 +100,7 @@ module _ (kind : ℕ) (w first second : List ℕ) where
       (lent first (firstRoom kind w first (length second)) (field v (length w))
       ∷ lent second (secondRoom kind w (length first) second) (cond (stranded kind) (field v (length w)) 0) ∷ [])
   rooms-ruled =
-      ruled kind w (roomsShort kind w (length first) (length second)) (rooms-few kind w first second) _ _
+      ruled kind w (roomsShort kind (length w) (length first) (length second)) (rooms-few kind w first second) _ _
       (λ e. ((rw e refl, (rw e refl, (rw e refl, tt))), (left-alone v (lowest w) first e, (if-alone (stranded kind) v (lowest (opposite w)) second e, tt))))
       (λ e. let t : v ≡ Taken = taken-is v e in (
         written-beyond v (lowest w) first (field v (length w)) (counted w refl e) (fits _ (first-fits kind w _ _ t)) e,

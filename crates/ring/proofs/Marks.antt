@@ -20,7 +20,7 @@ use Rattle.ring.specs.declared.judge.Verdict.the-variants.{Taken}
 use Rattle.ring.specs.declared.answer.Marked.{Marked}
 use Rattle.ring.specs.declared.marking.Strands.{Strands}
 use Rattle.ring.specs.Judging.{taken, over, after}
-use Rattle.ring.specs.Strands.{strandsOf, markedOn, refusedBy, leftTo}
+use Rattle.ring.specs.Strands.{bothStrands, markedOn, refusedBy, leftTo}
 use Rattle.ring.specs.Answers.{doneWith, markedBy, markedAs}
 
 -- a start that is found on a strand lies in the ring
@@ -34,7 +34,7 @@ found-within s w b e h =
 
 module _ (w : List ℕ) (a b : ℕ) (x : a ≡ start w) (y : b ≡ start (opposite w)) where
   -- the strand by the comparison of the two lowest readings
-  pub strands-by : (t : Bool) (s : ℕ) → t ≡ before (reading (opposite w) b) (reading w a) → s ≡ cond t 1 0 → _≡_ {A = Strands} (record { own = a; other = b; strand = s }) (strandsOf w)
+  pub strands-by : (t : Bool) (s : ℕ) → t ≡ before (reading (opposite w) b) (reading w a) → s ≡ cond t 1 0 → _≡_ {A = Strands} (record { own = a; other = b; strand = s }) (bothStrands w)
   unfolding lowest
   strands-by t s e f = rw (f, e, x, y)
 
@@ -77,7 +77,7 @@ module _ (kind : ℕ) (w : List ℕ) where
   unfolding strand keyStart
   marks-plain k a x = rw (k, x)
 
-  pub marks-stranded : stranded kind ≡ true → (s : Strands) → s ≡ strandsOf w → markedOn s (length w) ≡ doneWith (length w) (keyStart kind w) (strand kind w)
+  pub marks-stranded : stranded kind ≡ true → (s : Strands) → s ≡ bothStrands w → markedOn s (length w) ≡ doneWith (length w) (keyStart kind w) (strand kind w)
   unfolding strand keyStart
   marks-stranded k s e = by-test (before (lowest (opposite w)) (lowest w)) (λ t. rw (e, k, t)) (λ t. rw (e, k, t))
 

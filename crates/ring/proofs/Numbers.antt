@@ -77,7 +77,7 @@ pub too-few : (size n : ℕ) → (ltb size n ≡ true) ↔ (size < n)
 too-few size n = (ltb-true size n, lt-ltb size n)
 
 -- the rooms of the key
-pub rooms-few : (kind : ℕ) (w first second : List ℕ) → (roomsShort kind w (length first) (length second) ≡ true) ↔ LacksRoom kind w first second
+pub rooms-few : (kind : ℕ) (w first second : List ℕ) → (roomsShort kind (length w) (length first) (length second) ≡ true) ↔ LacksRoom kind w first second
 rooms-few kind w first second = (
   (λ e. by-test (ltb (length first) (length w)) (λ t. inl (ltb-true _ _ t))
       (λ t. by-test (stranded kind) (λ s. inr (s, ltb-true _ _ (simp (t, s) at e))) (λ s. absurd (true≢false (sym (simp (t, s) at e)))))),

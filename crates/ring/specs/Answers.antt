@@ -28,7 +28,7 @@ use Rattle.ring.specs.Judging.{Permitted, ringRules, verdict, taken, num
 abbrev pub fewer : ℕ → List ℕ → Bool
 fewer size w = ltb size (length w)
 
--- ---- the number and place alone: a ring judged
+-- ---- the number and place alone, a ring judged: "The answer carries the number, the place" (01)
 
 abbrev pub checkedAs : Verdict → Checked
 checkedAs v = record { number = numberOf v; place = placeOf v }
@@ -52,7 +52,7 @@ factoredOf kind w size = factoredAs (verdict kind w (fewer size w)) w
 abbrev pub factoredTable : ℕ → List ℕ → List ℕ → List ℕ
 factoredTable kind w t = after (verdict kind w (fewer (length t) w)) (factorTable w) t
 
--- ---- the two prefix tables
+-- ---- the two prefix tables: "entry L-1 of the suffix table", "entry L-1 of the start table" (01)
 
 abbrev pub filledOf : ℕ → List ℕ → ℕ → Checked
 filledOf kind w size = checkedAs (verdict kind w (fewer size w))
@@ -63,7 +63,7 @@ suffixesTable kind w t = after (verdict kind w (fewer (length t) w)) (suffixTabl
 abbrev pub startsTable : ℕ → List ℕ → List ℕ → List ℕ
 startsTable kind w t = after (verdict kind w (fewer (length t) w)) (startTable w) t
 
--- ---- the duel route: where the duels end, and the pairs they read
+-- ---- the duel route: where the duels end, and the pairs they read (01, "The two routes to a start")
 
 abbrev pub foughtAs : Verdict → List ℕ → Fought
 foughtAs v w = record { number = numberOf v; place = placeOf v; start = field v (startOf (duels w)); pairs = field v (pairs w) }
@@ -71,7 +71,7 @@ foughtAs v w = record { number = numberOf v; place = placeOf v; start = field v 
 abbrev pub foughtOf : ℕ → List ℕ → Fought
 foughtOf kind w = foughtAs (verdict kind w false) w
 
--- ---- the repeat
+-- ---- the repeat (01, "Letters, rings, readings")
 
 abbrev pub repeatedAs : Verdict → List ℕ → Repeated
 repeatedAs v w = record { number = numberOf v; place = placeOf v; repeat = field v (repeat w) }
@@ -89,6 +89,7 @@ doneWith n at s = record { number = 0; place = 0; n = n; start = at; strand = s 
 abbrev pub refusalOf : ℕ → ℕ → Marked
 refusalOf number place = record { number = number; place = place; n = 0; start = 0; strand = 0 }
 
+-- marks by a verdict: "other fields are 0" where it declines (01)
 abbrev pub markedBy : Verdict → ℕ → ℕ → ℕ → Marked
 markedBy v n at s = record { number = numberOf v; place = placeOf v; n = field v n; start = field v at; strand = field v s }
 
@@ -107,11 +108,12 @@ abbrev pub letteredRoom : ℕ → List ℕ → List ℕ → List ℕ
 letteredRoom kind w room = after (verdict kind w (fewer (length room) w)) (key kind w) room
 
 -- "For kind 1 both rooms of the key count for 4, for kind 0 the first alone" (01): the rooms' sizes against the ring
-abbrev pub roomsShort : ℕ → List ℕ → ℕ → ℕ → Bool
-roomsShort kind w first second = fewer first w || stranded kind && fewer second w
+abbrev pub roomsShort : ℕ → ℕ → ℕ → ℕ → Bool
+roomsShort kind n first second = ltb first n || stranded kind && ltb second n
 
+-- the order for rings, with 4 for these two rooms
 abbrev pub keyVerdict : ℕ → List ℕ → ℕ → ℕ → Verdict
-keyVerdict kind w first second = verdict kind w (roomsShort kind w first second)
+keyVerdict kind w first second = verdict kind w (roomsShort kind (length w) first second)
 
 abbrev pub keyedOf : ℕ → List ℕ → ℕ → ℕ → Marked
 keyedOf kind w first second = markedAs (keyVerdict kind w first second) kind w
@@ -157,7 +159,8 @@ comparedOf kind u v = comparedAs (verdict kind u false) (verdict kind v false) (
 
 -- ---- letters judged as a key
 
--- some permitted ring of the kind has this key, with this start and strand
+-- some permitted ring of the kind has this key, with this start and strand; where none has, 7: "not what the writer makes for any
+-- deposit" (01)
 pub record IsKey (kind : ℕ) (k : List ℕ) (at s : ℕ) : Type 0 where
   pub ring : List ℕ
   pub permitted : Permitted kind ring

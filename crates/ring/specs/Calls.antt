@@ -56,10 +56,10 @@ pub record WriteKeyCall (w : List ℕ) (kind : ℕ) (first second : List ℕ) (r
   pub front : one ≡ firstRoom kind w first (length second)
   pub back : two ≡ secondRoom kind w (length first) second
 
--- key(w, kind, first, second), its rooms at the places p and q, hands back `part` at the place `at`
-pub record KeyCall (w : List ℕ) (kind : ℕ) (first second : List ℕ) (p q : ℕ × ℕ) (part : List ℕ) (at : ℕ × ℕ) : Type 0 where
+-- key(w, kind, first, second), its rooms at the addresses p and q, hands back `part`, which stands at `there`
+pub record KeyCall (w : List ℕ) (kind : ℕ) (first second : List ℕ) (p q : ℕ × ℕ) (part : List ℕ) (there : ℕ × ℕ) : Type 0 where
   pub is : part ≡ keyPart kind w (length first) (length second)
-  pub place : at ≡ cond (inSecond kind w (length first) (length second)) q p
+  pub stands : there ≡ cond (inSecond kind w (length first) (length second)) q p
 
 -- check_key(k, kind, at, s) answers r
 pub record CheckKeyCall (k : List ℕ) (kind at s : ℕ) (r : Marked) : Type 0 where

@@ -15,7 +15,7 @@ use Rattle.ring.specs.Rule.{Rule, rule, judged}
 abbrev pub most : ℕ
 most = 8192
 
--- the first position whose byte is no letter of the kind, n if there is none
+-- the first position whose byte is no letter of the kind, n if there is none (01, 3: "the place is the first such position")
 abbrev pub firstBad : ℕ → List ℕ → ℕ
 firstBad kind [] = 0
 firstBad kind (a ∷ w) = cond (isLetter kind a) (suc (firstBad kind w)) 0

@@ -14,8 +14,8 @@ use Rattle.ring.specs.Judging.{numberOf, placeOf}
 use Rattle.ring.specs.Answers.{doneWith, refusalOf}
 
 -- the start as given, the start of the opposite strand, and 1 where the opposite strand's lowest reading is the lesser, else 0
-abbrev pub strandsOf : List ℕ → Strands
-strandsOf w = record { own = start w; other = start (opposite w); strand = cond (before (lowest (opposite w)) (lowest w)) 1 0 }
+abbrev pub bothStrands : List ℕ → Strands
+bothStrands w = record { own = start w; other = start (opposite w); strand = cond (before (lowest (opposite w)) (lowest w)) 1 0 }
 
 -- a ring done: the marks on the strand so named
 abbrev pub markedOn : Strands → ℕ → Marked
@@ -25,6 +25,7 @@ markedOn s n = doneWith n (cond (eqb (s .strand) 1) (s .other) (s .own)) (s .str
 abbrev pub refusedBy : Verdict → Marked
 refusedBy v = refusalOf (numberOf v) (placeOf v)
 
--- whether the opposite strand leaves the key to letters that are their own lowest reading: on strand 1 only if its own is greater
+-- whether letters that are their own lowest reading are the key on strand s: on strand 1 they come before the opposite strand's lowest
+-- reading, else that does not come before them
 abbrev pub leftTo : List ℕ → ℕ → Bool
 leftTo w s = cond (eqb s 1) (before w (lowest (opposite w))) (not (before (lowest (opposite w)) w))

@@ -8,10 +8,10 @@ ghost use Rattle.ring.specs.Answers.{equal, sameKey, comparedOf};
 use super::answer::Compared;
 use super::facing::facing_table;
 use super::judge::Verdict;
-use super::judge::has_strands;
 use super::judge::judge;
 use super::judge::number_of;
 use super::judge::place_of;
+use super::kind::has_opposite;
 use super::reading::same_reading;
 use super::start::start_of;
 
@@ -39,7 +39,7 @@ fn same_key(first: &[u8], second: &[u8], kind: u8) -> bool
     if same_reading(&facing, first, 0, a, second, 0, b) {
         return true;
     }
-    if has_strands(kind) {
+    if has_opposite(kind) {
         return same_opposite(first, second, b);
     }
     false

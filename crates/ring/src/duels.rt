@@ -22,7 +22,7 @@ struct Pair {
 // Step 4: of letters `a` at p + k and `b` at q + k the greater one's position moves forward by k + 1; if the two are then
 // equal, q grows by one; the smaller is called p.
 fn moved(p: usize, q: usize, k: usize, a: u8, b: u8) -> Pair
-    requires { ⌜ (p ≤ 1000000) × (q ≤ 1000000) × (k ≤ 1000000) ⌝ }
+    requires { ⌜ (p ≤ most) × (q ≤ most) × (k ≤ most) ⌝ }
     ensures { λ r. ⌜ (r .p ≡ movedP p q k a b) × (r .q ≡ movedQ p q k a b) ⌝ }
 {
     let x = if b < a { p + (k + 1) } else { p };
@@ -45,7 +45,7 @@ struct Ended {
 }
 
 // Steps 1 to 4: a duel ends at its first differing pair, or after n equal pairs.
-fn fight(ring: &[u8]) -> Ended
+fn fight_all(ring: &[u8]) -> Ended
     requires { ⌜ (0 < length (now ring)) × (length (now ring) ≤ most) ⌝ }
     ensures { λ r. ⌜ (r .start ≡ startOf (duels (now (ring .entry)))) × (r .pairs ≡ pairs (now (ring .entry))) ⌝ }
 {
@@ -94,7 +94,7 @@ pub fn duel(ring: &[u8], kind: u8) -> Fought
             pairs: 0,
         };
     };
-    let end = fight(ring);
+    let end = fight_all(ring);
     Fought {
         number: 0,
         place: 0,

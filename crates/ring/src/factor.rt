@@ -32,7 +32,7 @@ pub struct Factor {
 // The longest Lyndon word that is a prefix of a strand. The scan goes on from what is read of the slice already: `read` letters,
 // and the one at `back` is expected next. Two letters differ on one strand just where they do on the other, so only two that
 // differ are looked up.
-pub fn first_factor(facing: &[u8; 256], s: &[u8], strand: u8, read: usize, back: usize) -> Factor
+fn first_factor(facing: &[u8; 256], s: &[u8], strand: u8, read: usize, back: usize) -> Factor
     requires { ⌜ (now facing ≡ facingTable) × Scan (onStrand strand (now s)) read back ⌝ }
     ensures { λ r. ⌜ FirstFactor (onStrand strand (now (s .entry))) (r .size) (r .read) (r .back) ⌝ }
 {

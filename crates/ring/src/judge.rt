@@ -1,9 +1,10 @@
 // The judging of a ring: one verdict, in the order 6, 1, 2, 3, 4.
 ghost use mathlib.Core.Path.{_≡_};
-ghost use Rattle.words.specs.keys.Kind.{known, isLetter, stranded, strands};
 ghost use Rattle.ring.specs.Judging.{firstBad, verdict, numberOf, placeOf};
 ghost use Rattle.ring.specs.Answers.{checkedAs, checkedOf};
 use super::answer::Checked;
+use super::kind::is_known;
+use super::kind::is_letter;
 
 // The most letters that a ring has.
 pub const MOST: usize = 8192;
@@ -49,54 +50,8 @@ pub fn place_of(v: Verdict) -> usize
     }
 }
 
-// Whether a kind is one of ours.
-fn is_known(kind: u8) -> bool
-    ensures { λ r. ⌜ r ≡ known kind ⌝ }
-{
-    kind <= 1
-}
-
-// Whether rings of a kind have an opposite strand.
-pub fn has_strands(kind: u8) -> bool
-    ensures { λ r. ⌜ r ≡ stranded kind ⌝ }
-{
-    kind == 1
-}
-
-// How many strands rings of a kind have, 0 for a kind that is none.
-pub fn strands_of(kind: u8) -> u8
-    ensures { λ r. ⌜ r ≡ strands kind ⌝ }
-{
-    if !is_known(kind) {
-        return 0;
-    }
-    if has_strands(kind) {
-        return 2;
-    }
-    1
-}
-
-// Whether a byte is a letter of the kind.
-pub fn is_letter(kind: u8, a: u8) -> bool
-    ensures { λ r. ⌜ r ≡ isLetter kind a ⌝ }
-{
-    if kind == 0 {
-        return true;
-    }
-    if a == b'A' {
-        return true;
-    }
-    if a == b'C' {
-        return true;
-    }
-    if a == b'G' {
-        return true;
-    }
-    a == b'T'
-}
-
 // The first position that holds no letter of the kind, the length if there is none.
-pub fn first_bad(ring: &[u8], kind: u8) -> usize
+fn first_bad(ring: &[u8], kind: u8) -> usize
     ensures { λ r. ⌜ r ≡ firstBad kind (now (ring .entry)) ⌝ }
 {
     let n = ring.len();
@@ -144,7 +99,7 @@ pub fn said(v: Verdict) -> Checked
     }
 }
 
-// A ring judged alone: the number that every call would give it that is lent nothing.
+// A ring judged alone: the number and place of a call on a ring that is lent no table and no room.
 pub fn check(ring: &[u8], kind: u8) -> Checked
     ensures { λ r. ⌜ r ≡ checkedOf kind (now (ring .entry)) ⌝ }
 {

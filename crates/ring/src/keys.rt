@@ -1,28 +1,26 @@
 // The key of a ring, written to lent rooms and handed back as a part of one.
 ghost use mathlib.Core.Path.{_≡_};
-ghost use mathlib.Core.Bool.{cond, _&&_, _||_};
-ghost use lib.Dec.{ltb};
+ghost use mathlib.Core.Bool.{cond};
 ghost use lib.ListN.{length};
-ghost use Rattle.words.specs.keys.Kind.{stranded};
-ghost use Rattle.ring.specs.Answers.{keyedOf, firstRoom, secondRoom, keyPart, inSecond};
+ghost use Rattle.ring.specs.Answers.{roomsShort, keyedOf, firstRoom, secondRoom, keyPart, inSecond};
 use super::answer::Marked;
 use super::judge::Verdict;
-use super::judge::has_strands;
 use super::judge::judge;
+use super::kind::has_opposite;
 use super::marking::chosen;
 use super::marking::marks_of;
 use super::marking::read_strands;
 use super::marking::refused;
 use super::reading::put_reading;
 
-// Whether a room that the key needs has fewer entries than the ring: the first, and for a kind with strands the second too.
+// Whether a room that the key needs has fewer entries than the ring: the first, and for a kind with an opposite strand the second too.
 fn short_rooms(kind: u8, n: usize, first: usize, second: usize) -> bool
-    ensures { λ r. ⌜ r ≡ (ltb first n || stranded kind && ltb second n) ⌝ }
+    ensures { λ r. ⌜ r ≡ roomsShort kind n first second ⌝ }
 {
     if first < n {
         return true;
     }
-    if has_strands(kind) {
+    if has_opposite(kind) {
         return second < n;
     }
     false
@@ -40,7 +38,7 @@ pub fn write_key(ring: &[u8], kind: u8, first: &mut [u8], second: &mut [u8]) -> 
     let Verdict::Taken = v else {
         return refused(v);
     };
-    if has_strands(kind) {
+    if has_opposite(kind) {
         let s = read_strands(ring);
         put_reading(ring, 0, s.own, first);
         put_reading(ring, 1, s.other, second);

@@ -3,15 +3,15 @@ ghost use mathlib.Core.Path.{_≡_};
 ghost use Prim.Native.Nat.{_<_};
 ghost use lib.ListN.{length};
 ghost use Rattle.words.specs.keys.Strand.{keyStart, strand};
-ghost use Rattle.ring.specs.Strands.{strandsOf, markedOn, refusedBy};
+ghost use Rattle.ring.specs.Strands.{bothStrands, markedOn, refusedBy};
 ghost use Rattle.ring.specs.Answers.{doneWith, refusalOf, markedOf, letteredOf, letteredRoom};
 use super::answer::Marked;
 use super::facing::facing_table;
 use super::judge::Verdict;
-use super::judge::has_strands;
 use super::judge::judge;
 use super::judge::number_of;
 use super::judge::place_of;
+use super::kind::has_opposite;
 use super::reading::lower;
 use super::reading::put_reading;
 use super::start::start_of;
@@ -26,7 +26,7 @@ pub struct Strands {
 // Both strands read; on a tie the key is on strand 0.
 pub fn read_strands(ring: &[u8]) -> Strands
     requires { ⌜ 0 < length (now ring) ⌝ }
-    ensures { λ r. ⌜ r ≡ strandsOf (now (ring .entry)) ⌝ }
+    ensures { λ r. ⌜ r ≡ bothStrands (now (ring .entry)) ⌝ }
 {
     let facing = facing_table();
     let a = start_of(&facing, ring, 0);
@@ -94,7 +94,7 @@ pub fn marks_of(ring: &[u8], kind: u8) -> Marked
     ensures { λ r. ⌜ r ≡ doneWith (length (now (ring .entry))) (keyStart kind (now (ring .entry))) (strand kind (now (ring .entry))) ⌝ }
 {
     let n = ring.len();
-    if has_strands(kind) {
+    if has_opposite(kind) {
         return chosen(read_strands(ring), n);
     }
     let facing = facing_table();

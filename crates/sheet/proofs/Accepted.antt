@@ -8,7 +8,7 @@ use lib.ListN.{length, take, drop, getD, length-drop, take-append-drop, drop-of-
 use lib.Seq.{drop-cons, drop-drop, getD-drop}
 use Rattle.ring.specs.Judging.{Permitted}
 use Rattle.sheet.specs.Sheet.{bytesIn, width, tag, trailerSize, trailerOf, bytesOf, sheetOf}
-use Rattle.sheet.specs.Trailer.{Bytes, trailer, strandAt, kindAt, tagAt, wayBack, before, marksIn, foundOf, numberOf}
+use Rattle.sheet.specs.Trailer.{Bytes, trailer, strandAt, kindAt, tagAt, wayBack, before, contentsIn, foundOf, numberOf}
 use Rattle.sheet.specs.Demands.{Reaches}
 use Rattle.sheet.proofs.Widths.{two-back}
 use Rattle.sheet.proofs.Replies.{right-first, right-last}
@@ -27,21 +27,21 @@ marks-are t h =
     ∙ ap (λ x. getD t (tagAt + 1) 0 ∷ x) (drop-of-length-le t {i = trailerSize} (omega arith)))))
 
 module _ (b : List ℕ) (r : Reaches b) where
-  trailer-is : Bytes b → trailer b ≡ trailerOf (length (marksIn b .letters)) (marksIn b .start) (marksIn b .strand) (marksIn b .kind)
+  trailer-is : Bytes b → trailer b ≡ trailerOf (length (contentsIn b .letters)) (contentsIn b .start) (contentsIn b .strand) (contentsIn b .kind)
   trailer-is y =
       let t : List ℕ = trailer b in
       let l : length t ≡ trailerSize = length-drop (length b - trailerSize) b ∙ omega (arith, r .trailed .long) in
       let g : getD t tagAt 0 ∷ getD t (tagAt + 1) 0 ∷ [] ≡ tag = cc (right-first t (r .trailed .right), right-last t (r .trailed .right)) in
       sym (two-back width t (omega arith) (λ i. rw getD-drop (y _)))
-      ∙ ap (λ x. bytesIn width (wayBack b) ++ bytesIn width (marksIn b .start) ++ x) (marks-are t l ∙ ap (λ x. getD t strandAt 0 ∷ getD t kindAt 0 ∷ x) g)
-      ∙ ap (λ n. trailerOf n (marksIn b .start) (marksIn b .strand) (marksIn b .kind)) (sym (letters-size b r))
+      ∙ ap (λ x. bytesIn width (wayBack b) ++ bytesIn width (contentsIn b .start) ++ x) (marks-are t l ∙ ap (λ x. getD t strandAt 0 ∷ getD t kindAt 0 ∷ x) g)
+      ∙ ap (λ n. trailerOf n (contentsIn b .start) (contentsIn b .strand) (contentsIn b .kind)) (sym (letters-size b r))
 
   -- the bytes from the first letter on are those of the letters and marks read
-  sheet-bytes : Bytes b → drop (before b) b ≡ bytesOf (marksIn b)
+  sheet-bytes : Bytes b → drop (before b) b ≡ bytesOf (contentsIn b)
   sheet-bytes y =
       let e : before b + wayBack b ≡ length b - trailerSize = omega (arith, r .reach) in
       sym (take-append-drop (wayBack b) (drop (before b) b))
-      ∙ ap (λ t. marksIn b .letters ++ t) (drop-drop (wayBack b) (before b) b ∙ ap (λ i. drop i b) e ∙ trailer-is y)
+      ∙ ap (λ t. contentsIn b .letters ++ t) (drop-drop (wayBack b) (before b) b ∙ ap (λ i. drop i b) e ∙ trailer-is y)
 
 -- bytes that end in the sheet of a deposit
 pub record Ends (b : List ℕ) : Type 0 where

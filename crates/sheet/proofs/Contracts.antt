@@ -33,7 +33,7 @@ read-call κs a r e p = record { answer = p .0; bytes = p .1 }
 
 pub letters-call : (κs : Lifetimes.Lfts 1) (a : World.ArgsD letters.signature κs) (r : World.ResD letters.signature κs) (e : Clauses.AtExit (Fn.endedOf 1 letters-kinds.ps letters-kinds.r) κs)
     → letters-reads.Post κs a r e → LettersCall (now (a .0)) (a .0 .ptr) (now r) (r .ptr)
-letters-call κs a r e p = record { is = p .0; block = p .1 .0; place = p .1 .1 }
+letters-call κs a r e p = record { is = p .0; block = p .1 .0; stands = p .1 .1 }
 
 pub original-call : (κs : Lifetimes.Lfts 2) (a : World.ArgsD original.signature κs) (r : World.ResD original.signature κs) (e : Clauses.AtExit (Fn.endedOf 2 original-kinds.ps original-kinds.r) κs)
     → original-reads.Post κs a r e → OriginalCall (now (a .0)) (now (a .1 .0)) r (now (e .1 .0))

@@ -36,7 +36,7 @@ read-ruled {b} c = rw (c .answer) (entry-ruled b)
 
 -- an empty part at the front, or the n letters behind the bytes before
 pub letters-handed : {b : List ℕ} {p : ℕ × ℕ} {part : List ℕ} {at : ℕ × ℕ} {r : Entry} → LettersCall b p part at → ReadCall b r → HandsBack b r p part at
-letters-handed {b} {p} {part} {at} l c = rw (c .answer, l .is) (part-handed b p at (l .block) (l .place))
+letters-handed {b} {p} {part} {at} l c = rw (c .answer, l .is) (part-handed b p at (l .block) (l .stands))
 
 -- 4 last, and the other numbers those of `read`
 pub original-ruled : {b room : List ℕ} {r : Checked} {left : List ℕ} → OriginalCall b room r left

@@ -10,7 +10,7 @@ use Rattle.ring.specs.Judging.{verdict}
 use Rattle.ring.specs.Answers.{doneWith, deposit, isKey}
 use Rattle.sheet.specs.declared.answer.Found.the-variants.{Sheet, Refused}
 use Rattle.sheet.specs.Sheet.{sheetOf, depositOf}
-use Rattle.sheet.specs.Trailer.{marksIn, wrongMarks, foundOf}
+use Rattle.sheet.specs.Trailer.{contentsIn, wrongMarks, foundOf}
 use Rattle.sheet.specs.Book.{walkOf, walkedOf, through}
 
 abbrev A : ℕ
@@ -43,7 +43,7 @@ pub gattaca-found : foundOf (N ∷ N ∷ gattacaSheet) ≡ Sheet (doneWith 7 3 1
 unfolding foundOf wrongMarks stranded isKey deposit verdict key keyStart strand lowest start reading opposite
 gattaca-found = refl
 
-pub gattaca-back : depositOf (marksIn (N ∷ N ∷ gattacaSheet)) ≡ gattaca
+pub gattaca-back : depositOf (contentsIn (N ∷ N ∷ gattacaSheet)) ≡ gattaca
 unfolding deposit reading opposite
 gattaca-back = refl
 
@@ -59,7 +59,7 @@ pub acac-one : foundOf (four acac 1 0 1) ≡ Sheet (doneWith 4 1 0) 1 0
 unfolding foundOf wrongMarks stranded isKey deposit verdict key keyStart strand lowest start reading opposite
 acac-one = refl
 
-pub acac-one-back : depositOf (marksIn (four acac 1 0 1)) ≡ C ∷ A ∷ C ∷ A ∷ []
+pub acac-one-back : depositOf (contentsIn (four acac 1 0 1)) ≡ C ∷ A ∷ C ∷ A ∷ []
 unfolding deposit reading opposite
 acac-one-back = refl
 

@@ -20,7 +20,7 @@ use Rattle.sheet.specs.declared.answer.Found.{Found}
 use Rattle.sheet.specs.declared.answer.Found.the-variants.{Sheet, Refused}
 use Rattle.sheet.specs.declared.answer.Points.{Points}
 use Rattle.sheet.specs.Sheet.{isMade, depositOf}
-use Rattle.sheet.specs.Trailer.{trailer, wayBack, before, marksIn, badIn, letterRules, sheetRules, sheetIn, foundOf, formOf, pointsIn, numberOf, placeOf}
+use Rattle.sheet.specs.Trailer.{trailer, wayBack, before, contentsIn, badIn, letterRules, sheetRules, sheetIn, foundOf, formOf, pointsIn, numberOf, placeOf}
 use Rattle.sheet.specs.Reader.{restoredOf, originalOf, roomAs, originalRoom}
 use Rattle.sheet.proofs.Replies.{Pointed, test-right, right-kind, form-pointed, form-refused, length-letters, from-three}
 
@@ -71,52 +71,52 @@ module _ (m : Marked) (kind before : ℕ) (i : ℕ) where
 
 module _ (b : List ℕ) (p : Pointed b) (short : Bool) where
   abbrev bad : Bool
-  bad = ltb (badIn b) (length (marksIn b .letters))
+  bad = ltb (badIn b) (length (contentsIn b .letters))
 
   abbrev verdict : Verdict
-  verdict = asKey (marksIn b .kind) (marksIn b .letters) (marksIn b .start) (marksIn b .strand) short
+  verdict = asKey (contentsIn b .kind) (contentsIn b .letters) (contentsIn b .start) (contentsIn b .strand) short
 
   -- of 6, 1, 2 and 3 only 3 is left to give
-  verdict-is : verdict ≡ verdictBy bad (isMade (marksIn b)) short (badIn b)
+  verdict-is : verdict ≡ verdictBy bad (isMade (contentsIn b)) short (badIn b)
   unfolding asKey
   verdict-is =
-      let l : length (marksIn b .letters) ≡ wayBack b = length-letters b p in
+      let l : length (contentsIn b .letters) ≡ wayBack b = length-letters b p in
       rw (
         right-kind (trailer b) (test-right (trailer b) (p .right)),
-        ne-eqb (length (marksIn b .letters)) 0 (λ e. omega (arith, p .some)),
-        le-ltb most (length (marksIn b .letters)) (omega (arith, p .within)),
+        ne-eqb (length (contentsIn b .letters)) 0 (λ e. omega (arith, p .some)),
+        le-ltb most (length (contentsIn b .letters)) (omega (arith, p .within)),
       )
 
-  found-is : foundBy bad (isMade (marksIn b)) short (badIn b) (sheetIn b) ≡ judged (sheetRules b ++ rule short (Refused 4 0) ∷ []) (sheetIn b)
+  found-is : foundBy bad (isMade (contentsIn b)) short (badIn b) (sheetIn b) ≡ judged (sheetRules b ++ rule short (Refused 4 0) ∷ []) (sheetIn b)
   found-is = from-three b p (letterRules b ++ rule short (Refused 4 0) ∷ [])
 
   abbrev found : Found
   found = judged (sheetRules b ++ rule short (Refused 4 0) ∷ []) (sheetIn b)
 
   abbrev marks : Marked
-  marks = doneWith (wayBack b) (marksIn b .start) (marksIn b .strand)
+  marks = doneWith (wayBack b) (contentsIn b .start) (contentsIn b .strand)
 
   refused-same : (ringed.numberOf verdict ≡ 0 → ⊥) → Refused (ringed.numberOf verdict) (ringed.placeOf verdict) ≡ found
   refused-same n =
       ap (λ v. Refused (ringed.numberOf v) (ringed.placeOf v)) verdict-is
-      ∙ same-refused marks (marksIn b .kind) (before b) (badIn b) bad (isMade (marksIn b)) short (λ z. n (ap ringed.numberOf verdict-is ∙ z)) ∙ found-is
+      ∙ same-refused marks (contentsIn b .kind) (before b) (badIn b) bad (isMade (contentsIn b)) short (λ z. n (ap ringed.numberOf verdict-is ∙ z)) ∙ found-is
 
   done-same : ringed.numberOf verdict ≡ 0 → (verdict ≡ Taken) × (sheetIn b ≡ found)
   done-same z =
-      let x = same-done marks (marksIn b .kind) (before b) (badIn b) bad (isMade (marksIn b)) short (sym (ap ringed.numberOf verdict-is) ∙ z) in
+      let x = same-done marks (contentsIn b .kind) (before b) (badIn b) bad (isMade (contentsIn b)) short (sym (ap ringed.numberOf verdict-is) ∙ z) in
       (verdict-is ∙ x .0, sym (x .1) ∙ found-is)
 
   number-same : ringed.numberOf verdict ≡ numberOf found
   number-same =
-      ap ringed.numberOf verdict-is ∙ same-number marks (marksIn b .kind) (before b) (badIn b) bad (isMade (marksIn b)) short ∙ ap numberOf found-is
+      ap ringed.numberOf verdict-is ∙ same-number marks (contentsIn b .kind) (before b) (badIn b) bad (isMade (contentsIn b)) short ∙ ap numberOf found-is
 
   place-same : ringed.placeOf verdict ≡ placeOf found
   place-same =
-      ap ringed.placeOf verdict-is ∙ same-place marks (marksIn b .kind) (before b) (badIn b) bad (isMade (marksIn b)) short ∙ ap placeOf found-is
+      ap ringed.placeOf verdict-is ∙ same-place marks (contentsIn b .kind) (before b) (badIn b) bad (isMade (contentsIn b)) short ∙ ap placeOf found-is
 
   room-same : (new old : List ℕ) → after verdict new old ≡ roomAs found new old
   room-same new old =
-      ap (λ v. after v new old) verdict-is ∙ same-room marks (marksIn b .kind) (before b) (badIn b) bad (isMade (marksIn b)) short new old
+      ap (λ v. after v new old) verdict-is ∙ same-room marks (contentsIn b .kind) (before b) (badIn b) bad (isMade (contentsIn b)) short new old
       ∙ ap (λ f. roomAs f new old) found-is
 
 -- ---- what the calls answer, on what the trailer points to
@@ -125,7 +125,7 @@ module _ (b : List ℕ) (p : Pointed b) (short : Bool) where
 abbrev lettersAt : List ℕ → Points → List ℕ
 lettersAt b q = take (q .before + q .n - q .before) (drop (q .before) b)
 
-letters-are : (b : List ℕ) → lettersAt b (pointsIn b) ≡ marksIn b .letters
+letters-are : (b : List ℕ) → lettersAt b (pointsIn b) ≡ contentsIn b .letters
 letters-are b = let e : before b + wayBack b - before b ≡ wayBack b = omega arith in ap (λ n. take n (drop (before b) b)) e
 
 module _ (b : List ℕ) (z : formOf b ≡ 0) (q : Points) (g : q ≡ pointsIn b) where
@@ -137,13 +137,13 @@ module _ (b : List ℕ) (z : formOf b ≡ 0) (q : Points) (g : q ≡ pointsIn b)
 
   -- what depends on the letters and marks, read by the code or in the definition
   as-read : {A : Type 0} (f : ℕ → List ℕ → ℕ → ℕ → A)
-      → f (q .kind) (lettersAt b q) (q .start) (q .strand) ≡ f (marksIn b .kind) (marksIn b .letters) (marksIn b .start) (marksIn b .strand)
+      → f (q .kind) (lettersAt b q) (q .start) (q .strand) ≡ f (contentsIn b .kind) (contentsIn b .letters) (contentsIn b .start) (contentsIn b .strand)
   as-read f =
       ap (λ (q : Points). f (q .kind) (lettersAt b q) (q .start) (q .strand)) g
-      ∙ ap (λ w. f (marksIn b .kind) w (marksIn b .start) (marksIn b .strand)) (letters-are b)
+      ∙ ap (λ w. f (contentsIn b .kind) w (contentsIn b .start) (contentsIn b .strand)) (letters-are b)
 
   module _ (m : Marked) (e : m ≡ keyMarksOf (q .kind) (lettersAt b q) (q .start) (q .strand)) where
-    marks-are : m ≡ keyMarksOf (marksIn b .kind) (marksIn b .letters) (marksIn b .start) (marksIn b .strand)
+    marks-are : m ≡ keyMarksOf (contentsIn b .kind) (contentsIn b .letters) (contentsIn b .start) (contentsIn b .strand)
     marks-are = e ∙ as-read keyMarksOf
 
     pub key-refused : (m .number ≡ 0 → ⊥) → Refused (m .number) (m .place) ≡ foundOf b
@@ -156,9 +156,9 @@ module _ (b : List ℕ) (z : formOf b ≡ 0) (q : Points) (g : q ≡ pointsIn b)
     unfolding foundOf
     key-found y =
         let x = done-same b pointed false (sym (ap (λ (m : Marked). m .number) marks-are) ∙ y) in
-        let d : m ≡ doneWith (wayBack b) (marksIn b .start) (marksIn b .strand) =
-        marks-are ∙ ap (λ v. markedBy v (length (marksIn b .letters)) (marksIn b .start) (marksIn b .strand)) (x .0)
-        ∙ ap (λ n. doneWith n (marksIn b .start) (marksIn b .strand)) (length-letters b pointed) in
+        let d : m ≡ doneWith (wayBack b) (contentsIn b .start) (contentsIn b .strand) =
+        marks-are ∙ ap (λ v. markedBy v (length (contentsIn b .letters)) (contentsIn b .start) (contentsIn b .strand)) (x .0)
+        ∙ ap (λ n. doneWith n (contentsIn b .start) (contentsIn b .strand)) (length-letters b pointed) in
         ap₂ (λ (m : Marked) (q : Points). Sheet m (q .kind) (q .before)) d g ∙ x .1
 
 -- ---- the original
@@ -168,11 +168,11 @@ pub original-refused : (b room : List ℕ) → (formOf b ≡ 0 → ⊥)
 unfolding restoredOf
 original-refused b room n =
     let e : Refused (formOf b) 0 ≡ restoredOf b (length room) = form-refused b n (letterRules b ++ rule (ltb (length room) (wayBack b)) (Refused 4 0) ∷ []) in
-    (ap (λ f. record { number = numberOf f; place = placeOf f }) e, ap (λ f. roomAs f (depositOf (marksIn b)) room) e)
+    (ap (λ f. record { number = numberOf f; place = placeOf f }) e, ap (λ f. roomAs f (depositOf (contentsIn b)) room) e)
 
 module _ (b : List ℕ) (z : formOf b ≡ 0) (q : Points) (g : q ≡ pointsIn b) (room : List ℕ) where
   abbrev short : Bool
-  short = fewer (length room) (marksIn b .letters)
+  short = fewer (length room) (contentsIn b .letters)
 
   restored : found b (form-pointed b z) short ≡ restoredOf b (length room)
   unfolding restoredOf
@@ -188,4 +188,4 @@ module _ (b : List ℕ) (z : formOf b ≡ 0) (q : Points) (g : q ≡ pointsIn b)
   pub original-room : (left : List ℕ) → left ≡ depositRoom (q .kind) (lettersAt b q) (q .start) (q .strand) room → left ≡ originalRoom b room
   original-room left e =
       e ∙ as-read b z q g (λ k w i s. depositRoom k w i s room)
-      ∙ room-same b (form-pointed b z) short (depositOf (marksIn b)) room ∙ ap (λ f. roomAs f (depositOf (marksIn b)) room) restored
+      ∙ room-same b (form-pointed b z) short (depositOf (contentsIn b)) room ∙ ap (λ f. roomAs f (depositOf (contentsIn b)) room) restored

@@ -17,8 +17,8 @@ use Rattle.ring.proofs.Exactly.{bad-here, good-before, good-all, good-at, bad-i
 use Rattle.ring.proofs.Deposit.{passes-permitted, passes-key, passes-start, passes-strand, ring-passes}
 use Rattle.sheet.specs.declared.answer.Found.{Found}
 use Rattle.sheet.specs.declared.answer.Found.the-variants.{Refused}
-use Rattle.sheet.specs.Sheet.{Marks, trailerSize, marksOf, depositOf, isMade}
-use Rattle.sheet.specs.Trailer.{trailer, wayBack, marksIn, wrongMarks, badIn, letterRules, sheetRules, sheetIn, foundOf, numberOf, placeOf}
+use Rattle.sheet.specs.Sheet.{Contents, trailerSize, contentsOf, depositOf, isMade}
+use Rattle.sheet.specs.Trailer.{trailer, wayBack, contentsIn, wrongMarks, badIn, letterRules, sheetRules, sheetIn, foundOf, numberOf, placeOf}
 use Rattle.sheet.specs.Reader.{restoredOf}
 use Rattle.sheet.specs.Demands.{Trailed, Reaches, Lettered, Made, SheetGiven, few, wrong, none, many, far, letter, unmade, sheet, OriginalGiven, as-read, lacking, done}
 use Rattle.sheet.proofs.Replies.{Pointed, wrong-test, test-wrong, right-test, test-right, says-few, says-wrong, says-none, says-many, says-reach, length-letters, says-bad, says-unmade, says-made}
@@ -30,22 +30,22 @@ exactly-given Table number place k i g one = ((λ e. subst (λ x. Table x i) (e 
 
 -- ---- 7: the test, and some deposit that has these letters and marks
 
-pub marks-path : (a b : Marks) → a .letters ≡ b .letters → a .start ≡ b .start → a .strand ≡ b .strand → a .kind ≡ b .kind → a ≡ b
-marks-path a b p q r s = λ i. record { letters = p i; start = q i; strand = r i; kind = s i }
+pub contents-path : (a b : Contents) → a .letters ≡ b .letters → a .start ≡ b .start → a .strand ≡ b .strand → a .kind ≡ b .kind → a ≡ b
+contents-path a b p q r s = λ i. record { letters = p i; start = q i; strand = r i; kind = s i }
 
 -- what passes the test is what the writer makes for its deposit
-test-made : (b : List ℕ) → isMade (marksIn b) ≡ true → Made b
+test-made : (b : List ℕ) → isMade (contentsIn b) ≡ true → Made b
 test-made b e =
-    let m : Marks = marksIn b in
+    let m : Contents = contentsIn b in
     record {
       kind = m .kind;
       deposit = depositOf m;
       permitted = passes-permitted (m .kind) (m .letters) (m .start) (m .strand) e;
-      is = marks-path (marksOf (m .kind) (depositOf m)) m (passes-key (m .kind) (m .letters) (m .start) (m .strand) e)
+      is = contents-path (contentsOf (m .kind) (depositOf m)) m (passes-key (m .kind) (m .letters) (m .start) (m .strand) e)
           (passes-start (m .kind) (m .letters) (m .start) (m .strand) e) (passes-strand (m .kind) (m .letters) (m .start) (m .strand) e) refl;
     }
 
-pub made-test : (b : List ℕ) → Made b → isMade (marksIn b) ≡ true
+pub made-test : (b : List ℕ) → Made b → isMade (contentsIn b) ≡ true
 made-test b m = subst (λ x. isMade x ≡ true) (m .is) (ring-passes (m .kind) (m .deposit) (m .permitted))
 
 -- ---- what is found
@@ -55,14 +55,14 @@ module _ (b : List ℕ) where
   reach-pointed r =
       record { long = r .trailed .long; right = right-test (trailer b) (r .trailed .right); some = r .some; within = r .within; reach = r .reach }
 
-  pub letters-size : Reaches b → length (marksIn b .letters) ≡ wayBack b
+  pub letters-size : Reaches b → length (contentsIn b .letters) ≡ wayBack b
   letters-size r = length-letters b (reach-pointed r)
 
   -- every letter is one: the first that is none is not there
-  no-bad : Lettered b → ltb (badIn b) (length (marksIn b .letters)) ≡ false
+  no-bad : Lettered b → ltb (badIn b) (length (contentsIn b .letters)) ≡ false
   no-bad l =
-      le-ltb (badIn b) (length (marksIn b .letters))
-      (good-all (marksIn b .kind) (marksIn b .letters) (λ i h. l .letters i (omega (arith, letters-size (l .reaches)))))
+      le-ltb (badIn b) (length (contentsIn b .letters))
+      (good-all (contentsIn b .kind) (contentsIn b .letters) (λ i h. l .letters i (omega (arith, letters-size (l .reaches)))))
 
   pub sheet-found : Lettered b → Made b → sheetIn b ≡ foundOf b
   sheet-found l m = says-made b (reach-pointed (l .reaches)) (no-bad l) (made-test b m)
@@ -70,7 +70,7 @@ module _ (b : List ℕ) where
   unmade-found : Lettered b → (Made b → ⊥) → Refused 7 0 ≡ foundOf b
   unmade-found l n =
       says-unmade b (reach-pointed (l .reaches)) (no-bad l)
-      (by-test (isMade (marksIn b)) (λ t. absurd (n (test-made b t))) (λ t. t))
+      (by-test (isMade (contentsIn b)) (λ t. absurd (n (test-made b t))) (λ t. t))
 
   bad-found : (r : Reaches b) → badIn b < wayBack b → Refused 3 (badIn b) ≡ foundOf b
   bad-found r h = says-bad b (reach-pointed r) (omega (arith, letters-size r))
@@ -88,7 +88,7 @@ module _ (b : List ℕ) where
   given-found (far t s m l) =
       told (says-reach b (letterRules b) (t .long) (right-test (trailer b) (t .right)) (wayBack b) refl (λ e. omega (arith, s)) m l)
   given-found (letter r i h n g) =
-      let e : badIn b ≡ i = bad-is (marksIn b .kind) (marksIn b .letters) i (omega (arith, letters-size r)) n g in
+      let e : badIn b ≡ i = bad-is (contentsIn b .kind) (contentsIn b .letters) i (omega (arith, letters-size r)) n g in
       let t = told (bad-found r (omega arith)) in (t .0, t .1 ∙ e)
   given-found (unmade l n) = told (unmade-found l n)
   given-found (sheet l m) = told (sheet-found l m)
@@ -99,11 +99,11 @@ module _ (b : List ℕ) where
 
   by-letters : Reaches b → Gives (foundOf b)
   by-letters r =
-      let n : length (marksIn b .letters) ≡ wayBack b = letters-size r in
+      let n : length (contentsIn b .letters) ≡ wayBack b = letters-size r in
       either (lt-or-ge (badIn b) (wayBack b))
-      (λ h. subst Gives (bad-found r h) (letter r (badIn b) h (bad-here (marksIn b .kind) (marksIn b .letters) (omega arith)) (good-before (marksIn b .kind) (marksIn b .letters))))
-      (λ h. let l : Lettered b = record { reaches = r; letters = λ i g. good-at (marksIn b .kind) (marksIn b .letters) (omega arith) i (omega arith) } in
-      by-test (isMade (marksIn b)) (λ t. subst Gives (sheet-found l (test-made b t)) (sheet l (test-made b t)))
+      (λ h. subst Gives (bad-found r h) (letter r (badIn b) h (bad-here (contentsIn b .kind) (contentsIn b .letters) (omega arith)) (good-before (contentsIn b .kind) (contentsIn b .letters))))
+      (λ h. let l : Lettered b = record { reaches = r; letters = λ i g. good-at (contentsIn b .kind) (contentsIn b .letters) (omega arith) i (omega arith) } in
+      by-test (isMade (contentsIn b)) (λ t. subst Gives (sheet-found l (test-made b t)) (sheet l (test-made b t)))
       (λ t. let u : Made b → ⊥ = λ m. true≢false (sym (made-test b m) ∙ t) in subst Gives (unmade-found l u) (unmade l u)))
 
   by-back : Trailed b → wrongMarks (trailer b) ≡ false → Gives (foundOf b)

@@ -20,7 +20,7 @@ use Rattle.sheet.specs.declared.answer.Found.{Found}
 use Rattle.sheet.specs.declared.answer.Found.the-variants.{Sheet, Refused}
 use Rattle.sheet.specs.declared.answer.Points.{Points}
 use Rattle.sheet.specs.Sheet.{numberIn, width, tagFirst, tagLast, trailerSize, isMade}
-use Rattle.sheet.specs.Trailer.{trailer, startAt, strandAt, kindAt, tagAt, wayBack, before, marksIn, wrongMarks, badIn, sheetIn, formRules, letterRules, foundOf, formOf, pointsIn, numberOf, placeOf}
+use Rattle.sheet.specs.Trailer.{trailer, startAt, strandAt, kindAt, tagAt, wayBack, before, contentsIn, wrongMarks, badIn, sheetIn, formRules, letterRules, foundOf, formOf, pointsIn, numberOf, placeOf}
 use Rattle.sheet.specs.Demands.{Wrong, tag-first, tag-last, no-kind, strand-above, feature-strand}
 
 -- a refusal by its number and place
@@ -185,25 +185,25 @@ module _ (b : List ℕ) where
 -- ---- the letters and marks of such a trailer
 
 module _ (b : List ℕ) (p : Pointed b) where
-  pub length-letters : length (marksIn b .letters) ≡ wayBack b
+  pub length-letters : length (contentsIn b .letters) ≡ wayBack b
   length-letters = rw (length-take, length-drop) (omega (arith, p .reach))
 
   -- only what is judged behind the trailer's rules answers
   pub from-three : (more : List (Rule Found)) → judged more (sheetIn b) ≡ judged (formRules b ++ more) (sheetIn b)
   from-three more = says-more b more (p .long) (p .right) (wayBack b) refl (λ e. omega (arith, p .some)) (p .within) (p .reach)
 
-  pub says-bad : badIn b < length (marksIn b .letters) → Refused 3 (badIn b) ≡ foundOf b
+  pub says-bad : badIn b < length (contentsIn b .letters) → Refused 3 (badIn b) ≡ foundOf b
   unfolding foundOf
   says-bad h =
-      let a : Refused 3 (badIn b) ≡ judged (letterRules b) (sheetIn b) = rw (lt-ltb (badIn b) (length (marksIn b .letters)) h) in
+      let a : Refused 3 (badIn b) ≡ judged (letterRules b) (sheetIn b) = rw (lt-ltb (badIn b) (length (contentsIn b .letters)) h) in
       a ∙ from-three (letterRules b)
 
-  module _ (t : ltb (badIn b) (length (marksIn b .letters)) ≡ false) where
-    pub says-unmade : isMade (marksIn b) ≡ false → Refused 7 0 ≡ foundOf b
+  module _ (t : ltb (badIn b) (length (contentsIn b .letters)) ≡ false) where
+    pub says-unmade : isMade (contentsIn b) ≡ false → Refused 7 0 ≡ foundOf b
     unfolding foundOf
     says-unmade u = let a : Refused 7 0 ≡ judged (letterRules b) (sheetIn b) = rw (t, u) in a ∙ from-three (letterRules b)
 
-    pub says-made : isMade (marksIn b) ≡ true → sheetIn b ≡ foundOf b
+    pub says-made : isMade (contentsIn b) ≡ true → sheetIn b ≡ foundOf b
     unfolding foundOf
     says-made u = let a : sheetIn b ≡ judged (letterRules b) (sheetIn b) = rw (t, u) in a ∙ from-three (letterRules b)
 

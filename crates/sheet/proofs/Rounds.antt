@@ -23,22 +23,22 @@ use Rattle.ring.proofs.Marks.{start-below}
 use Rattle.ring.proofs.Deposit.{deposit-back, permitted-key}
 use Rattle.sheet.specs.declared.answer.Found.the-variants.{Sheet}
 use Rattle.sheet.specs.declared.answer.Entry.{Entry}
-use Rattle.sheet.specs.Sheet.{Marks, base, numberIn, width, tagFirst, tagLast, tag, trailerSize, trailerOf, bytesOf, marksOf, sheetOf, depositOf, writeVerdict}
-use Rattle.sheet.specs.Trailer.{trailer, startAt, strandAt, kindAt, wayBack, marksIn, wrongAs, wrongMarks, sheetIn, foundOf, numberOf}
+use Rattle.sheet.specs.Sheet.{Contents, base, numberIn, width, tagFirst, tagLast, tag, trailerSize, trailerOf, bytesOf, contentsOf, sheetOf, depositOf, writeVerdict}
+use Rattle.sheet.specs.Trailer.{trailer, startAt, strandAt, kindAt, wayBack, contentsIn, wrongAs, wrongMarks, sheetIn, foundOf, numberOf}
 use Rattle.sheet.specs.Trailer as at-end
 use Rattle.sheet.specs.Reader.{entryAs, entryOf, partAs, partOf, restoredOf, originalOf, roomAs, originalRoom}
 use Rattle.sheet.specs.Calls.{WriteCall, LettersCall, OriginalCall}
 use Rattle.sheet.specs.Demands.{Reaches, Lettered, Made, RoundTrip, Accepted}
 use Rattle.sheet.proofs.Widths.{length-two, first-back, second-back, more-at}
 use Rattle.sheet.proofs.Replies.{test-right}
-use Rattle.sheet.proofs.Numbers.{marks-path, sheet-found, restored-done}
+use Rattle.sheet.proofs.Numbers.{contents-path, sheet-found, restored-done}
 
 -- ---- bytes that end in those of letters and marks
 
 trailer-at : (a t : List ℕ) → length t ≡ trailerSize → trailer (a ++ t) ≡ t
 trailer-at a t e = drop-at a t (length (a ++ t) - trailerSize) (omega (arith, length-append a t))
 
-module _ (pre : List ℕ) (m : Marks) where
+module _ (pre : List ℕ) (m : Contents) where
   -- what stands behind a trailer's two numbers, and the trailer
   abbrev behind : List ℕ
   behind = m .strand ∷ m .kind ∷ tag
@@ -63,15 +63,15 @@ module _ (pre : List ℕ) (m : Marks) where
     before-bytes : at-end.before (pre ++ bytesOf m) ≡ length pre
     before-bytes = omega (arith, length-bytes, way-back)
 
-    letters-bytes : marksIn (pre ++ bytesOf m) .letters ≡ m .letters
+    letters-bytes : contentsIn (pre ++ bytesOf m) .letters ≡ m .letters
     letters-bytes = rw (before-bytes, way-back, drop-at pre (bytesOf m) (length pre) refl, take-at (m .letters) _ (length (m .letters)) refl)
 
     -- the marks read are the marks written
-    marks-bytes : m .start < base ^ width → marksIn (pre ++ bytesOf m) ≡ m
-    marks-bytes hs =
+    contents-bytes : m .start < base ^ width → contentsIn (pre ++ bytesOf m) ≡ m
+    contents-bytes hs =
         let at : (i : ℕ) → getD (trailer (pre ++ bytesOf m)) (strandAt + i) 0 ≡ getD behind i 0 =
         λ i. ap (λ t. getD t (strandAt + i) 0) trailer-bytes ∙ more-at width (length (m .letters)) (m .start) behind i in
-        marks-path (marksIn (pre ++ bytesOf m)) m letters-bytes
+        contents-path (contentsIn (pre ++ bytesOf m)) m letters-bytes
         (ap (λ t. numberIn width (drop startAt t)) trailer-bytes ∙ second-back width (length (m .letters)) (m .start) behind hs) (at 0) (at 1)
 
 -- ---- what the writer makes, read
@@ -90,7 +90,7 @@ written-right n s kind w k =
 
 pub size-written : (kind : ℕ) (w : List ℕ) → Permitted kind w → length (sheetOf kind w) ≡ length w + trailerSize
 unfolding sheetOf
-size-written kind w p = omega (arith, length-bytes [] (marksOf kind w), length-key kind w (p .some))
+size-written kind w p = omega (arith, length-bytes [] (contentsOf kind w), length-key kind w (p .some))
 
 -- the numbers of a permitted ring are held in a trailer's
 module _ (kind : ℕ) (w : List ℕ) (p : Permitted kind w) where
@@ -103,15 +103,15 @@ module _ (kind : ℕ) (w : List ℕ) (p : Permitted kind w) where
 module _ (pre : List ℕ) (kind : ℕ) (w : List ℕ) (p : Permitted kind w) where
   back-written : wayBack (pre ++ sheetOf kind w) ≡ length w
   unfolding sheetOf
-  back-written = way-back pre (marksOf kind w) (size-held kind w p) ∙ length-key kind w (p .some)
+  back-written = way-back pre (contentsOf kind w) (size-held kind w p) ∙ length-key kind w (p .some)
 
-  marks-written : marksIn (pre ++ sheetOf kind w) ≡ marksOf kind w
+  contents-written : contentsIn (pre ++ sheetOf kind w) ≡ contentsOf kind w
   unfolding sheetOf
-  marks-written = marks-bytes pre (marksOf kind w) (size-held kind w p) (start-held kind w p)
+  contents-written = contents-bytes pre (contentsOf kind w) (size-held kind w p) (start-held kind w p)
 
   right-written : wrongMarks (trailer (pre ++ sheetOf kind w)) ≡ false
   unfolding sheetOf
-  right-written = ap wrongMarks (trailer-bytes pre (marksOf kind w)) ∙ written-right (length (key kind w)) (keyStart kind w) kind w (p .kinds)
+  right-written = ap wrongMarks (trailer-bytes pre (contentsOf kind w)) ∙ written-right (length (key kind w)) (keyStart kind w) kind w (p .kinds)
 
   written-reaches : Reaches (pre ++ sheetOf kind w)
   written-reaches =
@@ -127,19 +127,19 @@ module _ (pre : List ℕ) (kind : ℕ) (w : List ℕ) (p : Permitted kind w) whe
   written-lettered : Lettered (pre ++ sheetOf kind w)
   written-lettered = record {
     reaches = written-reaches;
-    letters = subst (λ (m : Marks). (i : ℕ) → i < wayBack (pre ++ sheetOf kind w) → isLetter (m .kind) (getD (m .letters) i 0) ≡ true) (sym marks-written)
+    letters = subst (λ (m : Contents). (i : ℕ) → i < wayBack (pre ++ sheetOf kind w) → isLetter (m .kind) (getD (m .letters) i 0) ≡ true) (sym contents-written)
         (λ i h. permitted-key kind w p .letters i (omega (arith, back-written, length-key kind w (p .some))));
   }
 
   written-made : Made (pre ++ sheetOf kind w)
-  written-made = record { kind = kind; deposit = w; permitted = p; is = sym marks-written }
+  written-made = record { kind = kind; deposit = w; permitted = p; is = sym contents-written }
 
   sheet-in : sheetIn (pre ++ sheetOf kind w) ≡ Sheet (doneWith (length w) (keyStart kind w) (strand kind w)) kind (length pre)
   unfolding sheetOf
   sheet-in =
-      let m : Marks = marksOf kind w in
-      ap (λ (x : Marks). Sheet (doneWith (wayBack (pre ++ sheetOf kind w)) (x .start) (x .strand)) (x .kind) (at-end.before (pre ++ sheetOf kind w)))
-      (marks-bytes pre m (size-held kind w p) (start-held kind w p))
+      let m : Contents = contentsOf kind w in
+      ap (λ (x : Contents). Sheet (doneWith (wayBack (pre ++ sheetOf kind w)) (x .start) (x .strand)) (x .kind) (at-end.before (pre ++ sheetOf kind w)))
+      (contents-bytes pre m (size-held kind w p) (start-held kind w p))
       ∙ ap₂ (λ n b. Sheet (doneWith n (keyStart kind w) (strand kind w)) kind b)
       (way-back pre m (size-held kind w p) ∙ length-key kind w (p .some)) (before-bytes pre m (size-held kind w p))
 
@@ -159,8 +159,8 @@ module _ (pre : List ℕ) (kind : ℕ) (w : List ℕ) (p : Permitted kind w) whe
       ∙ ap (take (length w)) (drop-at pre (sheetOf kind w) (length pre) refl) ∙ take-at (key kind w) _ (length w) (length-key kind w (p .some))
 
   -- and to its deposit
-  round-deposit : depositOf (marksIn (pre ++ sheetOf kind w)) ≡ w
-  round-deposit = ap depositOf marks-written ∙ deposit-back kind w p
+  round-deposit : depositOf (contentsIn (pre ++ sheetOf kind w)) ≡ w
+  round-deposit = ap depositOf contents-written ∙ deposit-back kind w p
 
   module _ (room : List ℕ) (h : length w ≤ length room) where
     restored-written : restoredOf (pre ++ sheetOf kind w) (length room) ≡ Sheet (doneWith (length w) (keyStart kind w) (strand kind w)) kind (length pre)

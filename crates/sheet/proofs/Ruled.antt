@@ -19,8 +19,8 @@ use Rattle.ring.proofs.Deposit.{deposit-back}
 use Rattle.ring.proofs.Numbers.{ruled, too-few, left-alone, written-beyond}
 use Rattle.sheet.specs.declared.answer.Found.{Found}
 use Rattle.sheet.specs.declared.answer.Found.the-variants.{Sheet, Refused}
-use Rattle.sheet.specs.Sheet.{Marks, trailerSize, sheetOf, depositOf, writeVerdict, writtenOf, writtenRoom}
-use Rattle.sheet.specs.Trailer.{wayBack, marksIn, sheetIn, foundOf}
+use Rattle.sheet.specs.Sheet.{Contents, trailerSize, sheetOf, depositOf, writeVerdict, writtenOf, writtenRoom}
+use Rattle.sheet.specs.Trailer.{wayBack, contentsIn, sheetIn, foundOf}
 use Rattle.sheet.specs.Trailer as at-end
 use Rattle.sheet.specs.Reader.{entryAs, entryOf, partAs, partOf, restoredOf, originalOf, roomAs, originalRoom}
 use Rattle.sheet.specs.Book.{Walk, through, stopped, walkedAs}
@@ -88,15 +88,15 @@ room-as Table (Sheet marked kind before) x new old n h =
 room-as Table (Refused number place) x new old n h = record { exactly = x; refused = λ z. (tt, (refl, tt)); beyond = λ e. ((refl, refl), tt) }
 
 -- the deposit has as many letters as the sheet
-deposit-size : (b : List ℕ) → Reaches b → Made b → wayBack b ≡ length (depositOf (marksIn b))
+deposit-size : (b : List ℕ) → Reaches b → Made b → wayBack b ≡ length (depositOf (contentsIn b))
 deposit-size b r m =
-    let d : depositOf (marksIn b) ≡ m .deposit = ap depositOf (sym (m .is)) ∙ deposit-back (m .kind) (m .deposit) (m .permitted) in
-    omega (arith, letters-size b r, ap (λ (x : Marks). length (x .letters)) (m .is), length-key (m .kind) (m .deposit) (m .permitted .some), ap length d)
+    let d : depositOf (contentsIn b) ≡ m .deposit = ap depositOf (sym (m .is)) ∙ deposit-back (m .kind) (m .deposit) (m .permitted) in
+    omega (arith, letters-size b r, ap (λ (x : Contents). length (x .letters)) (m .is), length-key (m .kind) (m .deposit) (m .permitted .some), ap length d)
 
 pub restored-ruled : (b room : List ℕ) → AsRuled (OriginalGiven b (length room)) (originalOf b (length room) .number) (originalOf b (length room) .place) []
     (lent room (originalRoom b room) (wayBack b) ∷ [])
 restored-ruled b room =
-    room-as (OriginalGiven b (length room)) (restoredOf b (length room)) (original-exactly b (length room)) (depositOf (marksIn b)) room (wayBack b)
+    room-as (OriginalGiven b (length room)) (restoredOf b (length room)) (original-exactly b (length room)) (depositOf (contentsIn b)) room (wayBack b)
     (λ z. let s = restored-sheet b (length room) z in (deposit-size b (s .0 .0 .reaches) (s .0 .1), s .1))
 
 -- ---- by where a walk ends

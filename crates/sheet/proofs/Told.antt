@@ -9,7 +9,7 @@ use Rattle.ring.specs.declared.answer.Marked.{Marked}
 use Rattle.ring.specs.Answers.{doneWith}
 use Rattle.sheet.specs.declared.answer.Found.the-variants.{Sheet}
 use Rattle.sheet.specs.Sheet.{trailerSize}
-use Rattle.sheet.specs.Trailer.{wayBack, before, marksIn, sheetIn, foundOf, numberOf}
+use Rattle.sheet.specs.Trailer.{wayBack, before, contentsIn, sheetIn, foundOf, numberOf}
 use Rattle.sheet.specs.Reader.{partAs, partOf}
 use Rattle.sheet.proofs.Numbers.{sheet-found, taken-sheet}
 
@@ -20,7 +20,7 @@ module _ (b : List ℕ) (m : Marked) (k bf : ℕ) (e : Sheet m k bf ≡ foundOf 
   told-in : Sheet m k bf ≡ sheetIn b
   told-in = let t = taken-sheet b told-done in e ∙ sym (sheet-found b (t .0) (t .1))
 
-  told-marks : m ≡ doneWith (wayBack b) (marksIn b .start) (marksIn b .strand)
+  told-marks : m ≡ doneWith (wayBack b) (contentsIn b .start) (contentsIn b .strand)
   told-marks = let h = told-in in cc
 
   told-before : bf ≡ before b

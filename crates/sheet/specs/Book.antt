@@ -31,6 +31,7 @@ walkBack zero book ss = through ss
 walkBack (suc f) book ss =
     cond (eqb (length book) 0) (through ss) (stepAs (foundOf book) (λ before. walkBack f (take before book) (drop before book ∷ ss)))
 
+-- the walk of a whole book; "A book of 0 bytes holds 0 sheets" (01)
 unfoldable pub walkOf : List ℕ → Walk
 walkOf book = walkBack (length book) book []
 

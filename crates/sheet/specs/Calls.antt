@@ -24,11 +24,11 @@ pub record ReadCall (b : List ℕ) (r : Entry) : Type 0 where
   pub answer : r ≡ entryOf b
   pub bytes : Bytes b
 
--- letters(b), with b at the place p, hands back `part` at the place `at`
-pub record LettersCall (b : List ℕ) (p : ℕ × ℕ) (part : List ℕ) (at : ℕ × ℕ) : Type 0 where
+-- letters(b), with b at the address p, hands back `part`, which stands at `there`
+pub record LettersCall (b : List ℕ) (p : ℕ × ℕ) (part : List ℕ) (there : ℕ × ℕ) : Type 0 where
   pub is : part ≡ partOf b
-  pub block : at .0 ≡ p .0
-  pub place : at .1 ≡ p .1 + entryOf b .before
+  pub block : there .0 ≡ p .0
+  pub stands : there .1 ≡ p .1 + entryOf b .before
 
 -- original(b, room) answers r and leaves `left` in the room
 pub record OriginalCall (b room : List ℕ) (r : Checked) (left : List ℕ) : Type 0 where

@@ -11,8 +11,8 @@ use Rattle.ring.specs.declared.answer.Checked.{Checked}
 use Rattle.ring.specs.declared.answer.Marked.{Marked}
 use Rattle.ring.specs.Judging.{most, Permitted}
 use Rattle.sheet.specs.declared.answer.Entry.{Entry}
-use Rattle.sheet.specs.Sheet.{tagFirst, tagLast, trailerSize, marksOf, Written}
-use Rattle.sheet.specs.Trailer.{trailer, strandAt, kindAt, tagAt, wayBack, marksIn}
+use Rattle.sheet.specs.Sheet.{tagFirst, tagLast, trailerSize, contentsOf, Written}
+use Rattle.sheet.specs.Trailer.{trailer, strandAt, kindAt, tagAt, wayBack, contentsIn}
 use Rattle.sheet.specs.Book.{joined}
 use Rattle.sheet.specs.Calls.{WriteCall, OriginalCall}
 
@@ -41,14 +41,14 @@ pub record Reaches (b : List ℕ) : Type 0 where
 -- each of them is a letter of the sheet's kind
 pub record Lettered (b : List ℕ) : Type 0 where
   pub reaches : Reaches b
-  pub letters : (i : ℕ) → i < wayBack b → isLetter (marksIn b .kind) (getD (marksIn b .letters) i 0) ≡ true
+  pub letters : (i : ℕ) → i < wayBack b → isLetter (contentsIn b .kind) (getD (contentsIn b .letters) i 0) ≡ true
 
 -- the sheet's letters and marks are what the writer makes for a deposit
 pub record Made (b : List ℕ) : Type 0 where
   pub kind : ℕ
   pub deposit : List ℕ
   pub permitted : Permitted kind deposit
-  pub is : marksOf kind deposit ≡ marksIn b
+  pub is : contentsOf kind deposit ≡ contentsIn b
 
 -- each number when its condition holds and none before it in the order, with its place
 pub data SheetGiven (b : List ℕ) : ℕ → ℕ → Type 0 where
@@ -58,8 +58,8 @@ pub data SheetGiven (b : List ℕ) : ℕ → ℕ → Type 0 where
   many : Trailed b → most < wayBack b → SheetGiven b 2 0
   far : Trailed b → 0 < wayBack b → wayBack b ≤ most → length b - trailerSize < wayBack b → SheetGiven b 5 0
   -- the place is the first such position, counted from the sheet's first letter
-  letter : Reaches b → (i : ℕ) → i < wayBack b → isLetter (marksIn b .kind) (getD (marksIn b .letters) i 0) ≡ false
-      → ((j : ℕ) → j < i → isLetter (marksIn b .kind) (getD (marksIn b .letters) j 0) ≡ true) → SheetGiven b 3 i
+  letter : Reaches b → (i : ℕ) → i < wayBack b → isLetter (contentsIn b .kind) (getD (contentsIn b .letters) i 0) ≡ false
+      → ((j : ℕ) → j < i → isLetter (contentsIn b .kind) (getD (contentsIn b .letters) j 0) ≡ true) → SheetGiven b 3 i
   unmade : Lettered b → (Made b → ⊥) → SheetGiven b 7 0
   sheet : Lettered b → Made b → SheetGiven b 0 0
 
@@ -69,12 +69,12 @@ pub data OriginalGiven (b : List ℕ) (size : ℕ) : ℕ → ℕ → Type 0 wher
   lacking : SheetGiven b 0 0 → size < wayBack b → OriginalGiven b size 4 0
   done : SheetGiven b 0 0 → wayBack b ≤ size → OriginalGiven b size 0 0
 
--- what `letters` hands back, beside what `read` answers on the same bytes at the place p
-pub record HandsBack (b : List ℕ) (r : Entry) (p : ℕ × ℕ) (part : List ℕ) (at : ℕ × ℕ) : Type 0 where
+-- what `letters` hands back, beside what `read` answers on the same bytes at the address p
+pub record HandsBack (b : List ℕ) (r : Entry) (p : ℕ × ℕ) (part : List ℕ) (there : ℕ × ℕ) : Type 0 where
   -- "A declined call hands back an empty part at the front of the lent bytes" (01)
-  pub refused : (r .marked .number ≡ 0 → ⊥) → (part ≡ []) × (at ≡ p)
+  pub refused : (r .marked .number ≡ 0 → ⊥) → (part ≡ []) × (there ≡ p)
   -- "The answer gives the key as a part of the lent bytes" (01)
-  pub done : r .marked .number ≡ 0 → (part ≡ take (r .marked .n) (drop (r .before) b)) × (at ≡ (p .0, p .1 + r .before))
+  pub done : r .marked .number ≡ 0 → (part ≡ take (r .marked .n) (drop (r .before) b)) × (there ≡ (p .0, p .1 + r .before))
 
 -- each of a list is a sheet that the writer makes
 abbrev pub AllWritten : List (List ℕ) → Type 0

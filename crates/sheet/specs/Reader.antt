@@ -12,7 +12,7 @@ use Rattle.sheet.specs.declared.answer.Found.{Found}
 use Rattle.sheet.specs.declared.answer.Found.the-variants.{Sheet, Refused}
 use Rattle.sheet.specs.declared.answer.Entry.{Entry}
 use Rattle.sheet.specs.Sheet.{depositOf}
-use Rattle.sheet.specs.Trailer.{wayBack, marksIn, sheetRules, sheetIn, foundOf, numberOf, placeOf}
+use Rattle.sheet.specs.Trailer.{wayBack, contentsIn, sheetRules, sheetIn, foundOf, numberOf, placeOf}
 
 -- "start, strand, kind and how many bytes stand before"; "other fields are 0" (01)
 abbrev pub entryAs : Found → Entry
@@ -37,9 +37,10 @@ restoredOf b size = judged (sheetRules b ++ rule (ltb size (wayBack b)) (Refused
 abbrev pub originalOf : List ℕ → ℕ → Checked
 originalOf b size = record { number = numberOf (restoredOf b size); place = placeOf (restoredOf b size) }
 
+-- the room afterwards; refused, "no lent byte changes" (01)
 abbrev pub roomAs : Found → List ℕ → List ℕ → List ℕ
 roomAs (Sheet marked kind before) new old = over new old
 roomAs (Refused number place) new old = old
 
 abbrev pub originalRoom : List ℕ → List ℕ → List ℕ
-originalRoom b room = roomAs (restoredOf b (length room)) (depositOf (marksIn b)) room
+originalRoom b room = roomAs (restoredOf b (length room)) (depositOf (contentsIn b)) room

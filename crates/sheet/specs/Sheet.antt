@@ -12,8 +12,8 @@ use Rattle.ring.specs.declared.answer.Marked.{Marked}
 use Rattle.ring.specs.Judging.{Permitted, verdict, after}
 use Rattle.ring.specs.Answers.{markedAs, deposit, isKey}
 
--- the letters and marks of a sheet (01, "the sheet's letters and marks")
-pub record Marks : Type 0 where
+-- what a sheet holds: its letters, and the marks start, strand and kind (01, "the sheet's letters and marks")
+pub record Contents : Type 0 where
   pub letters : List ℕ
   pub start : ℕ
   pub strand : ℕ
@@ -56,15 +56,15 @@ abbrev pub trailerOf : ℕ → ℕ → ℕ → ℕ → List ℕ
 trailerOf n start strand kind = bytesIn width n ++ bytesIn width start ++ strand ∷ kind ∷ tag
 
 -- "The key's n letters, then a trailer of 8 bytes that points back" (01)
-abbrev pub bytesOf : Marks → List ℕ
+abbrev pub bytesOf : Contents → List ℕ
 bytesOf m = m .letters ++ trailerOf (length (m .letters)) (m .start) (m .strand) (m .kind)
 
 -- what the writer makes for a deposit: the marks of its key, and their bytes
-abbrev pub marksOf : ℕ → List ℕ → Marks
-marksOf kind w = record { letters = key kind w; start = keyStart kind w; strand = strand kind w; kind = kind }
+abbrev pub contentsOf : ℕ → List ℕ → Contents
+contentsOf kind w = record { letters = key kind w; start = keyStart kind w; strand = strand kind w; kind = kind }
 
 unfoldable pub sheetOf : ℕ → List ℕ → List ℕ
-sheetOf kind w = bytesOf (marksOf kind w)
+sheetOf kind w = bytesOf (contentsOf kind w)
 
 -- the writer makes the bytes s for some deposit
 pub record Written (s : List ℕ) : Type 0 where
@@ -73,11 +73,11 @@ pub record Written (s : List ℕ) : Type 0 where
   pub permitted : Permitted kind deposit
   pub is : sheetOf kind deposit ≡ s
 
--- the deposit of letters and marks, and whether they are what the writer makes for it
-abbrev pub depositOf : Marks → List ℕ
+-- the deposit of letters and marks, and whether they are what the writer makes for it; where not, 7 (01)
+abbrev pub depositOf : Contents → List ℕ
 depositOf m = deposit (m .letters) (m .start) (m .strand)
 
-abbrev pub isMade : Marks → Bool
+abbrev pub isMade : Contents → Bool
 isMade m = isKey (m .kind) (m .letters) (m .start) (m .strand)
 
 -- ---- the writer's answer: "Order for rings: 6, 1, 2, 3, 4", and 4 for "fewer than n+8" (01)

@@ -12,9 +12,9 @@ use Rattle.ring.specs.Answers.{doneWith}
 use Rattle.sheet.specs.declared.answer.Found.{Found}
 use Rattle.sheet.specs.declared.answer.Found.the-variants.{Sheet, Refused}
 use Rattle.sheet.specs.declared.answer.Points.{Points}
-use Rattle.sheet.specs.Sheet.{Marks, base, numberIn, width, tagFirst, tagLast, trailerSize, isMade}
+use Rattle.sheet.specs.Sheet.{Contents, base, numberIn, width, tagFirst, tagLast, trailerSize, isMade}
 
--- what lent bytes hold
+-- what lent bytes hold: each is below 256
 abbrev pub Bytes : List ℕ → Type 0
 Bytes b = (i : ℕ) → getD b i 0 < base
 
@@ -39,20 +39,20 @@ tagAt = kindAt + 1
 abbrev pub wayBack : List ℕ → ℕ
 wayBack b = numberIn width (trailer b)
 
--- how many bytes stand before the sheet's first letter
+-- "how many bytes stand before" (01) the sheet's first letter
 abbrev pub before : List ℕ → ℕ
 before b = length b - trailerSize - wayBack b
 
 -- the letters and marks that the trailer points to
-abbrev pub marksIn : List ℕ → Marks
-marksIn b = record {
+abbrev pub contentsIn : List ℕ → Contents
+contentsIn b = record {
   letters = take (wayBack b) (drop (before b) b);
   start = numberIn width (drop startAt (trailer b));
   strand = getD (trailer b) strandAt 0;
   kind = getD (trailer b) kindAt 0;
 }
 
--- "kind is not 0 or 1; in a sheet also a wrong tag, a strand above 1, or kind 0 with strand 1" (01): strand 1 of a kind without strands
+-- "kind is not 0 or 1; in a sheet also a wrong tag, a strand above 1, or kind 0 with strand 1" (01): strand 1 of a kind without an opposite strand
 abbrev pub wrongAs : ℕ → ℕ → ℕ → ℕ → Bool
 wrongAs a b kind strand = not (eqb a tagFirst) || not (eqb b tagLast) || not (known kind) || ltb 1 strand || eqb strand 1 && not (stranded kind)
 
@@ -61,11 +61,11 @@ wrongMarks t = wrongAs (getD t tagAt 0) (getD t (tagAt + 1) 0) (getD t kindAt 0)
 
 -- the first position, from the sheet's first letter, that holds no letter of the sheet's kind
 abbrev pub badIn : List ℕ → ℕ
-badIn b = firstBad (marksIn b .kind) (marksIn b .letters)
+badIn b = firstBad (contentsIn b .kind) (contentsIn b .letters)
 
 -- "start, strand, kind and how many bytes stand before" (01): the sheet that the trailer points to
 abbrev pub sheetIn : List ℕ → Found
-sheetIn b = Sheet (doneWith (wayBack b) (marksIn b .start) (marksIn b .strand)) (marksIn b .kind) (before b)
+sheetIn b = Sheet (doneWith (wayBack b) (contentsIn b .start) (contentsIn b .strand)) (contentsIn b .kind) (before b)
 
 -- "Order for a sheet: 5 for fewer than 8 bytes, 6, 1, 2, 5 for the way back" (01), of the trailer alone
 abbrev pub formRules : List ℕ → List (Rule Found)
@@ -80,11 +80,13 @@ formRules b =
 -- "3, 7" (01), of the letters that it points to; 7: "the sheet's letters and marks are not what the writer makes for any deposit"
 abbrev pub letterRules : List ℕ → List (Rule Found)
 letterRules b =
-    rule (ltb (badIn b) (length (marksIn b .letters))) (Refused 3 (badIn b)) ∷ rule (not (isMade (marksIn b))) (Refused 7 0) ∷ []
+    rule (ltb (badIn b) (length (contentsIn b .letters))) (Refused 3 (badIn b)) ∷ rule (not (isMade (contentsIn b))) (Refused 7 0) ∷ []
 
+-- "Order for a sheet: 5 .., 6, 1, 2, 5 for the way back, 3, 7" (01)
 abbrev pub sheetRules : List ℕ → List (Rule Found)
 sheetRules b = formRules b ++ letterRules b
 
+-- what the first of these that holds says, or the sheet
 unfoldable pub foundOf : List ℕ → Found
 foundOf b = judged (sheetRules b) (sheetIn b)
 
@@ -104,4 +106,4 @@ unfoldable pub formOf : List ℕ → ℕ
 formOf b = numberOf (judged (formRules b) (sheetIn b))
 
 abbrev pub pointsIn : List ℕ → Points
-pointsIn b = record { n = wayBack b; start = marksIn b .start; strand = marksIn b .strand; kind = marksIn b .kind; before = before b }
+pointsIn b = record { n = wayBack b; start = contentsIn b .start; strand = contentsIn b .strand; kind = contentsIn b .kind; before = before b }

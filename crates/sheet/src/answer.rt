@@ -1,4 +1,5 @@
-// What the calls on sheets answer: 01's number and place first, and for refused bytes every other field 0.
+// What the calls on sheets answer, 01's number and place first and for refused bytes every other field 0, and what they learn from a
+// trailer (`Found`, `Points`).
 use ring::Marked;
 
 // What stands at the end of lent bytes: a sheet, or the number of its refusal with its place.

@@ -58,7 +58,7 @@ fn put_number(room: &mut [u8], x: usize)
 }
 
 // Number 6 of a sheet: a wrong tag, or a strand that its kind has not; a kind that is none has no strand.
-pub fn wrong(t: &[u8]) -> bool
+fn wrong(t: &[u8]) -> bool
     requires { ⌜ length (now t) ≡ trailerSize ⌝ }
     ensures { λ r. ⌜ r ≡ wrongMarks (now (t .entry)) ⌝ }
 {

@@ -41,8 +41,8 @@ returns-2 c =
     let h = pre in
     same-own _ _ _ (h .0) (h .1) (read-same _ _ _ _ (start-of .ensures) (start-of2 .ensures) (sym (c .before .same-reading .ensures) ∙ c .if2 .taken))
 
-has-strands-requires : tie.Need-has-strands-requires
-has-strands-requires c κs = search needs
+has-opposite-requires : tie.Need-has-opposite-requires
+has-opposite-requires c κs = search needs
 
 same-opposite-requires : tie.Need-same-opposite-requires
 same-opposite-requires c κs =
@@ -59,7 +59,7 @@ returns-3 c =
     let if2 = (let p : tie.Else2 = search in p .if2) in
     let s : tie.Start = search in
     let n = read-differ _ _ _ _ (start-of .ensures) (start-of2 .ensures) (sym (same-reading .ensures) ∙ if2 .left) in
-    same-other _ _ _ (s .pre .0) (s .pre .1) n (sym (c .before .before .has-strands .ensures) ∙ c .before .if3 .taken) _
+    same-other _ _ _ (s .pre .0) (s .pre .1) n (sym (c .before .before .has-opposite .ensures) ∙ c .before .if3 .taken) _
     (c .same-opposite .ensures ∙ ap (λ i. equal (lowest (opposite (s .args .first .now))) (reading (s .args .second .now) i)) (start-of2 .ensures))
 
 returns-4 : tie.Need-returns-4
@@ -69,7 +69,7 @@ returns-4 c =
     let same-reading = (let p : tie.After-same-reading = search in p .same-reading) in
     let s : tie.Start = search in
     let n = read-differ _ _ _ _ (start-of .ensures) (start-of2 .ensures) (sym (same-reading .ensures) ∙ c .before .before .if2 .left) in
-    same-plain _ _ _ (s .pre .0) (s .pre .1) n (sym (c .before .has-strands .ensures) ∙ c .if3 .left)
+    same-plain _ _ _ (s .pre .0) (s .pre .1) n (sym (c .before .has-opposite .ensures) ∙ c .if3 .left)
 
 pub same-key-spec : {M : Type 1} → statement M
 same-key-spec =
@@ -81,7 +81,7 @@ same-key-spec =
     start-of-requires-2
     same-reading-requires
     returns-2
-    has-strands-requires
+    has-opposite-requires
     same-opposite-requires
     returns-3
     returns-4)

@@ -27,8 +27,8 @@ returns c =
     let r = not-taken (judged .judge .result) (c .before .before .match .keys2) in
     fought-refused _ _ _ e r _ _ (c .before .number-of .ensures) (c .place-of .ensures)
 
-fight-requires : tie.Need-fight-requires
-fight-requires c κs =
+fight-all-requires : tie.Need-fight-all-requires
+fight-all-requires c κs =
     let f = taken-permitted _ _ _ (sym (c .before .before .judge .ensures) ∙ c .enum-told .given .1) in
     (f .0 .some, f .0 .within)
 
@@ -36,7 +36,7 @@ returns-2 : tie.Need-returns-2
 returns-2 c =
     let judged : tie.After-judge = search in
     let e = sym (judged .judge .ensures) ∙ c .before .enum-told .given .1 in
-    fought-done _ _ e _ _ (c .fight .ensures .0) (c .fight .ensures .1)
+    fought-done _ _ e _ _ (c .fight-all .ensures .0) (c .fight-all .ensures .1)
 
 pub duel-spec : {M : Type 1} → statement M
 duel-spec =
@@ -47,5 +47,5 @@ duel-spec =
     number-of-requires
     place-of-requires
     returns
-    fight-requires
+    fight-all-requires
     returns-2)

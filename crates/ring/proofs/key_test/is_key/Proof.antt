@@ -25,8 +25,8 @@ returns-2 c =
     let first-run = (let p : tie.After-first-run = search in p .first-run) in
     test-late _ _ _ _ (pre) _ _ (first-run .ensures) (c .before .before .if1 .left) (search needs)
 
-has-strands-requires : tie.Need-has-strands-requires
-has-strands-requires c κs = search needs
+has-opposite-requires : tie.Need-has-opposite-requires
+has-opposite-requires c κs = search needs
 
 returns-3 : tie.Need-returns-3
 returns-3 c =
@@ -34,7 +34,7 @@ returns-3 c =
     let first-run = (let p : tie.After-first-run = search in p .first-run) in
     let if1 = (let p : tie.Else1 = search in p .if1) in
     let if2 = (let p : tie.Else2 = search in p .if2) in
-    let k = sym (c .before .before .has-strands .ensures) ∙ c .before .if3 .taken in
+    let k = sym (c .before .before .has-opposite .ensures) ∙ c .before .if3 .taken in
     test-strand _ _ _ _ (pre) _ _ (first-run .ensures) (if1 .left) (if2 .left) k (c .if4 .taken)
 
 left-to-requires : tie.Need-left-to-requires
@@ -44,12 +44,12 @@ left-to-requires c κs =
 
 returns-4 : tie.Need-returns-4
 returns-4 c =
-    let has-strands = (let p : tie.After-has-strands = search in p .has-strands) in
+    let has-opposite = (let p : tie.After-has-opposite = search in p .has-opposite) in
     let pre = (let p : tie.Start = search in p .pre) in
     let first-run = (let p : tie.After-first-run = search in p .first-run) in
     let if1 = (let p : tie.Else1 = search in p .if1) in
     let if2 = (let p : tie.Else2 = search in p .if2) in
-    let k = sym (has-strands .ensures) ∙ c .before .before .if3 .taken in
+    let k = sym (has-opposite .ensures) ∙ c .before .before .if3 .taken in
     test-left _ _ _ _ (pre) _ _ (first-run .ensures) (if1 .left) (if2 .left) k (c .before .if4 .left) _ (c .left-to .ensures)
 
 returns-5 : tie.Need-returns-5
@@ -57,7 +57,7 @@ returns-5 c =
     let pre = (let p : tie.Start = search in p .pre) in
     let first-run = (let p : tie.After-first-run = search in p .first-run) in
     let if1 = (let p : tie.Else1 = search in p .if1) in
-    let k = sym (c .before .has-strands .ensures) ∙ c .if3 .left in
+    let k = sym (c .before .has-opposite .ensures) ∙ c .if3 .left in
     test-plain _ _ _ _ (pre) _ _ (first-run .ensures) (if1 .left) (c .before .before .if2 .left) k
 
 pub is-key-spec : {M : Type 1} → statement M
@@ -68,7 +68,7 @@ is-key-spec =
     first-run-requires
     returns
     returns-2
-    has-strands-requires
+    has-opposite-requires
     returns-3
     left-to-requires
     returns-4

@@ -9,14 +9,14 @@ use Rattle.ring.proofs.keys.short_rooms.Tie as tie
 returns : tie.Need-returns
 returns c = simp (lt-ltb _ _ (c .if1 .taken))
 
-has-strands-requires : tie.Need-has-strands-requires
-has-strands-requires c κs = search needs
+has-opposite-requires : tie.Need-has-opposite-requires
+has-opposite-requires c κs = search needs
 
 returns-2 : tie.Need-returns-2
-returns-2 c = simp (le-ltb _ _ (c .before .before .if1 .left), sym (c .before .has-strands .ensures) ∙ c .if2 .taken)
+returns-2 c = simp (le-ltb _ _ (c .before .before .if1 .left), sym (c .before .has-opposite .ensures) ∙ c .if2 .taken)
 
 returns-3 : tie.Need-returns-3
-returns-3 c = simp (le-ltb _ _ (c .before .before .if1 .left), sym (c .before .has-strands .ensures) ∙ c .if2 .left)
+returns-3 c = simp (le-ltb _ _ (c .before .before .if1 .left), sym (c .before .has-opposite .ensures) ∙ c .if2 .left)
 
 pub short-rooms-spec : {M : Type 1} → statement M
-short-rooms-spec = tie.close (tie.spec returns has-strands-requires returns-2 returns-3)
+short-rooms-spec = tie.close (tie.spec returns has-opposite-requires returns-2 returns-3)

@@ -31,8 +31,8 @@ returns c =
     let k = keyed-refused (s .kind) (s .ring .now) (s .first .now) (s .second .now) (v .result) _ e (not-taken (v .result) (c .before .match .keys2)) (c .refused .ensures) in
     (k .answer, (k .front, k .back))
 
-has-strands-requires : tie.Need-has-strands-requires
-has-strands-requires c κs = search needs
+has-opposite-requires : tie.Need-has-opposite-requires
+has-opposite-requires c κs = search needs
 
 read-strands-requires : tie.Need-read-strands-requires
 read-strands-requires c κs =
@@ -56,11 +56,11 @@ put-reading-requires-2 c κs =
     let judge = (let p : tie.After-judge = search in p .judge) in
     let told = (let p : tie.After-enum-told = search in p .enum-told) in
     let read-strands = (let p : tie.After-read-strands = search in p .read-strands) in
-    let has-strands = (let p : tie.After-has-strands = search in p .has-strands) in
+    let has-opposite = (let p : tie.After-has-opposite = search in p .has-opposite) in
     let if1 = (let p : tie.Then1 = search in p .if1) in
     let t = sym (keyed-is _ _ _ _ _ _ (short-rooms .ensures) (judge .ensures)) ∙ told .given .1 in
     let b = found-within 1 _ _ (ap (λ (s : Strands). s .other) (read-strands .ensures)) (key-permitted _ _ _ _ t .some) in
-    (omega arith, second-fits _ _ _ _ t (sym (has-strands .ensures) ∙ if1 .taken))
+    (omega arith, second-fits _ _ _ _ t (sym (has-opposite .ensures) ∙ if1 .taken))
 
 chosen-requires : tie.Need-chosen-requires
 chosen-requires c κs = search needs
@@ -77,13 +77,13 @@ returns-2 c =
     let short-rooms = (let p : tie.After-short-rooms = search in p .short-rooms) in
     let judge = (let p : tie.After-judge = search in p .judge) in
     let told = (let p : tie.After-enum-told = search in p .enum-told) in
-    let has-strands = (let p : tie.After-has-strands = search in p .has-strands) in
+    let has-opposite = (let p : tie.After-has-opposite = search in p .has-opposite) in
     let if1 = (let p : tie.Then1 = search in p .if1) in
     let read-strands = (let p : tie.After-read-strands = search in p .read-strands) in
     let put-reading = (let p : tie.After-put-reading = search in p .put-reading) in
     let put-reading2 = (let p : tie.After-put-reading2 = search in p .put-reading2) in
     let t = sym (keyed-is (s .kind) (s .ring .now) _ _ _ _ (short-rooms .ensures) (judge .ensures)) ∙ told .given .1 in
-    let h = sym (has-strands .ensures) ∙ if1 .taken in
+    let h = sym (has-opposite .ensures) ∙ if1 .taken in
     let k = keyed-stranded (s .kind) (s .ring .now) (s .first .now) (s .second .now) t h _ _ _ _ (read-strands .ensures) (c .chosen .ensures) (put-reading .ensures) (put-reading2 .ensures) in
     (k .answer, (k .front, k .back))
 
@@ -112,11 +112,11 @@ returns-3 c =
     let short-rooms = (let p : tie.After-short-rooms = search in p .short-rooms) in
     let judge = (let p : tie.After-judge = search in p .judge) in
     let told = (let p : tie.After-enum-told = search in p .enum-told) in
-    let has-strands = (let p : tie.After-has-strands = search in p .has-strands) in
+    let has-opposite = (let p : tie.After-has-opposite = search in p .has-opposite) in
     let if1 = (let p : tie.Else1 = search in p .if1) in
     let marks-of = (let p : tie.After-marks-of = search in p .marks-of) in
     let t = sym (keyed-is (s .kind) (s .ring .now) _ _ _ _ (short-rooms .ensures) (judge .ensures)) ∙ told .given .1 in
-    let h = sym (has-strands .ensures) ∙ if1 .left in
+    let h = sym (has-opposite .ensures) ∙ if1 .left in
     let k = keyed-plain (s .kind) (s .ring .now) (s .first .now) (s .second .now) t h _ _ (marks-of .ensures) (c .before .before .put-reading3 .ensures) in
     (k .answer, (k .front, k .back))
 
@@ -129,7 +129,7 @@ write-key-spec =
     enum-told
     refused-requires
     returns
-    has-strands-requires
+    has-opposite-requires
     read-strands-requires
     put-reading-requires
     put-reading-requires-2

@@ -1,10 +1,10 @@
--- `ring::judge::is_letter` meets its contract.
+-- `ring::kind::is_letter` meets its contract.
 -- Assumes nothing.
 use mathlib.Core.Path.{sym}
 use Rattle.ring.proofs.Judging.{letter-last}
 use borrow.Author.Tests.{eq-eqb, ne-eqb}
-use Rattle.ring.proofs.judge.is_letter.Statement.{statement}
-use Rattle.ring.proofs.judge.is_letter.Tie as tie
+use Rattle.ring.proofs.kind.is_letter.Statement.{statement}
+use Rattle.ring.proofs.kind.is_letter.Tie as tie
 
 returns : tie.Need-returns
 returns c = simp (eq-eqb _ _ (c .if1 .taken))

@@ -1,10 +1,10 @@
--- `ring::key_test::put_deposit` meets its contract: the deposit is one reading of the letters.
+-- `ring::deposits::put_deposit` meets its contract: the deposit is one reading of the letters.
 -- Assumes nothing.
 use borrow.Author.Needs.{needs}
 use mathlib.Core.Path.{_∙_}
 use Rattle.ring.proofs.Deposit.{deposit-other, deposit-own}
-use Rattle.ring.proofs.key_test.put_deposit.Statement.{statement}
-use Rattle.ring.proofs.key_test.put_deposit.Tie as tie
+use Rattle.ring.proofs.deposits.put_deposit.Statement.{statement}
+use Rattle.ring.proofs.deposits.put_deposit.Tie as tie
 
 put-reading-requires : tie.Need-put-reading-requires
 put-reading-requires c κs = search needs

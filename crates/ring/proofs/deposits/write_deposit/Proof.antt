@@ -1,4 +1,4 @@
--- `ring::key_test::write_deposit` meets its contract.
+-- `ring::deposits::write_deposit` meets its contract.
 -- Assumes nothing.
 use borrow.Author.Needs.{needs}
 use mathlib.Core.Path.{sym, _∙_}
@@ -7,8 +7,8 @@ use Rattle.ring.specs.Answers.{deposit}
 use Rattle.ring.proofs.Judging.{not-taken}
 use Rattle.ring.proofs.Marks.{by-refused, by-done, room-refused, room-done}
 use Rattle.ring.proofs.AsKey.{deposit-fits}
-use Rattle.ring.proofs.key_test.write_deposit.Statement.{statement}
-use Rattle.ring.proofs.key_test.write_deposit.Tie as tie
+use Rattle.ring.proofs.deposits.write_deposit.Statement.{statement}
+use Rattle.ring.proofs.deposits.write_deposit.Tie as tie
 
 judge-key-requires : tie.Need-judge-key-requires
 judge-key-requires c κs = search needs

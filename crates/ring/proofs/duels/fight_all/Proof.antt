@@ -1,4 +1,4 @@
--- `ring::duels::fight` meets its contract. The invariants are the laws of `Rattle.words.proofs.duels.Duel`: a run of duels, and letters that agree.
+-- `ring::duels::fight_all` meets its contract. The invariants are the laws of `Rattle.words.proofs.duels.Duel`: a run of duels, and letters that agree.
 -- Assumes nothing.
 use mathlib.Core.List.{List}
 use Prim.Native.Nat.{ℕ, _+_, _≤_, _<_, _-_}
@@ -10,8 +10,8 @@ use Rattle.words.specs.duels.Duel.{startOf}
 use Rattle.words.proofs.order.Search.{either}
 use Rattle.words.specs.duels.Paired.{Paired, Met}
 use Rattle.words.proofs.duels.Duel.{Run, run-first, run-out, run-same, run-moved}
-use Rattle.ring.proofs.duels.fight.Statement.{statement}
-use Rattle.ring.proofs.duels.fight.Tie as tie
+use Rattle.ring.proofs.duels.fight_all.Statement.{statement}
+use Rattle.ring.proofs.duels.fight_all.Tie as tie
 
 abbrev Inv-scan : tie.InvT-scan
 Inv-scan s facing n p q c k₀ k = (k ≤ n) × Paired s s p q k
@@ -162,8 +162,8 @@ returns-2 c =
     let a = run-same _ (s .pre .0) _ _ _ (d .duels .inv) (on .if1 .left) (λ j h. m .agree j (omega (arith, c .if4 .taken))) in
     (sym (ap startOf (a .ended)), a .pairs)
 
-pub fight-spec : {M : Type 1} → statement M
-fight-spec =
+pub fight-all-spec : {M : Type 1} → statement M
+fight-all-spec =
     tie.close
     (tie.spec
     Inv-scan

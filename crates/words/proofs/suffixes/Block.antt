@@ -6,7 +6,7 @@ use Prim.Native.Nat.{ℕ, zero, suc, _≤_, _<_, _+_, _-_}
 use native.Mathlib.Omega.{arith}
 use native.Mathlib.Nat.{add-assoc}
 use lib.ListN.{length, take, drop, length-append, length-drop, length-take, take-append-drop}
-use lib.Seq.{take-add, drop-drop, drop-at, take-at, drop-append-le, drop-append-add, length-take-le}
+use lib.Seq.{take-add, drop-drop, take-at, drop-append-le, drop-append-add, length-take-le}
 use Rattle.words.specs.order.Order.{_≺_, _≼_}
 use Rattle.words.specs.factors.Lyndon.{Lyndon}
 use Rattle.words.specs.factors.Factor.{flat, copies, FirstRun}

@@ -46,8 +46,8 @@ shared-slice-read-t11 c =
 sub-t12 : tie.Need-sub-t12
 sub-t12 c =
     let s : tie.Start = search needs in
-    let x : tie.After-number = search needs in
-    rw (x .number .ensures) (form-pointed _ (s .pre) .reach)
+    let r = form-pointed _ (s .pre) .reach in
+    search needs
 
 returns : tie.Need-returns
 returns c =

@@ -43,9 +43,6 @@ module _ (w : List ℕ) (p : Printable w) where
     ended : Laid ((row 32 (strand 1 w ∷ keyStart 1 w ∷ []) ++ key 1 w) ++ (10 ∷ [])) o (set (putMid at (length t - at) t y) (at + length w) 10)
     ended = laid-one _ o _ key-laid (at + length w) 10 (sym key-size) (omega (arith, p .within))
 
-    pub line-size : length (set (putMid at (length t - at) t y) (at + length w) 10) ≡ length o
-    line-size = laid-size _ o _ ended
-
     pub key-line : ((at + length w + 1 ≡ length (keyLine w)) × (at + length w + 1 ≤ keyRoom)) × (set (putMid at (length t - at) t y) (at + length w) 10 ≡ over (keyLine w) o)
     unfolding keyLine
     key-line =

@@ -7,7 +7,7 @@ pub mod rings
 pub mod factors
 -- The repeat and the ring repeat, and how far letters match the front of a word
 pub mod repeats
--- Kinds, the opposite strand, the key; rings of one key, and a key turned back
+-- Kinds, the opposite strand, the key; rings that are one molecule
 pub mod keys
 -- The least suffix, the two prefix tables, and how the suffix table is filled
 pub mod suffixes

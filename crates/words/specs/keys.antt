@@ -1,3 +1,3 @@
--- Kinds, the opposite strand, the key; rings of one key, and a key turned back
+-- Kinds, the opposite strand, the key; rings that are one molecule
 pub mod Kind
 pub mod Strand

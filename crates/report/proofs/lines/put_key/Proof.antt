@@ -1,15 +1,15 @@
 -- `report::lines::put_key` meets its contract.
 -- Assumes nothing.
-use mathlib.Core.Path.{sym}
+use mathlib.Core.Path.{sym, ap, _∙_}
 use mathlib.Core.List.{[], _∷_}
 use native.Mathlib.Omega.{arith}
 use lib.ListN.{length, replicate, length-take, length-drop}
 use Rattle.words.specs.keys.Strand.{strand, keyStart, key}
-use Rattle.ring.proofs.Laid.{Laid}
+use Rattle.ring.proofs.Laid.{Laid, length-over}
 use Rattle.report.specs.Decimal.{row}
-use Rattle.report.specs.Report.{longest}
+use Rattle.report.specs.Report.{longest, keyLine}
 use Rattle.report.proofs.Told.{told-lettered, told-table}
-use Rattle.report.proofs.Printed.{keyStart-small, key-length, line-size, key-line}
+use Rattle.report.proofs.Printed.{keyStart-small, key-length, key-line}
 use borrow.Author.Needs.{needs}
 use Rattle.report.proofs.lines.put_key.Statement.{statement}
 use Rattle.report.proofs.lines.put_key.Tie as tie
@@ -71,22 +71,6 @@ slice-write-room c = search needs
 add-result : tie.Need-add-result
 add-result c = search needs
 
-same-length : tie.Need-same-length
-same-length c =
-    let s : tie.Start = search in
-    let written : tie.After-write-letters = search in
-    let numbers : tie.After-put-row = search in
-    let copied : tie.After-put-letters = search in
-    let w = s .args .ring .now in
-    let p = s .pre .0 in
-    let o = s .args .room .now in
-    let m = told-lettered w p _ longest (p .within) (written .write-letters .ensures .0) in
-    let e = rw (m .0, m .1) at (numbers .put-row .ensures) in
-    let l : Laid (row 32 (strand 1 w ∷ keyStart 1 w ∷ [])) o (numbers .put-row .last .0) = record { is = e .1; fits = rw (← e .0 .0) (omega (arith, e .0 .1)) } in
-    let k = told-table w p (replicate longest 0) _ (p .within) (key 1 w) (length w) (sym (key-length w p)) (written .write-letters .ensures .1) in
-    let q = rw k at (copied .put-letters .ensures) in
-    line-size w p o _ _ _ l (e .0 .0) (e .0 .1) (s .pre .1) q
-
 returns : tie.Need-returns
 returns c =
     let s : tie.Start = search in
@@ -102,6 +86,12 @@ returns c =
     let k = told-table w p (replicate longest 0) _ (p .within) (key 1 w) (length w) (sym (key-length w p)) (written .write-letters .ensures .1) in
     let q = rw k at (copied .put-letters .ensures) in
     key-line w p o _ _ _ l (e .0 .0) (e .0 .1) (s .pre .1) q
+
+same-length : tie.Need-same-length
+same-length c =
+    let s : tie.Start = search in
+    let r = returns c in
+    ap length (r .1) ∙ length-over (keyLine (s .args .ring .now)) (s .args .room .now) (omega (arith, r .0 .0, r .0 .1, s .pre .1))
 
 pub put-key-spec : {M : Type 1} → statement M
 put-key-spec =

@@ -12,6 +12,9 @@ use Rattle.ring.specs.declared.answer.Fought.{Fought}
 use Rattle.ring.specs.declared.answer.Repeated.{Repeated}
 use Rattle.ring.specs.declared.answer.Marked.{Marked}
 use Rattle.ring.specs.declared.answer.Compared.{Compared}
+use Rattle.fasta.specs.declared.answer.Part.{Part}
+use Rattle.fasta.specs.declared.answer.Found.{Found}
+use Rattle.fasta.specs.declared.answer.Record.{Record}
 use Rattle.sheet.specs.declared.answer.Entry.{Entry}
 use Rattle.sheet.specs.declared.answer.Walked.{Walked}
 
@@ -51,6 +54,17 @@ partFields a part = a .before ∷ length part ∷ []
 
 abbrev pub walkedFields : Walked → List ℕ
 walkedFields a = a .place ∷ a .sheets ∷ []
+
+-- each part of a text by its offset and its length
+abbrev pub recordFields : Record → List ℕ
+recordFields a = a .place ∷ a .n ∷ a .header .offset ∷ a .header .size ∷ a .rest .offset ∷ a .rest .size ∷ []
+
+abbrev pub foundFields : Found → List ℕ
+foundFields a = a .place ∷ a .header .offset ∷ a .header .size ∷ a .rest .offset ∷ a .rest .size ∷ []
+
+-- a part handed back: its offset, as `find` has it, and its own length
+abbrev pub placedFields : Part → List ℕ → List ℕ
+placedFields a part = a .offset ∷ length part ∷ []
 
 -- an answer that is a length alone
 abbrev pub lengthFields : ℕ → List ℕ

@@ -1,4 +1,4 @@
-// The parts that two calls hand back. An exported function returns no slice, so each is written to `part`, as the slice
+// The parts that four calls hand back. An exported function returns no slice, so each is written to `part`, as the slice
 // that it is: a host finds its address and its length there.
 ghost use mathlib.Core.Path.{_≡_};
 ghost use mathlib.Core.Bool.{cond};
@@ -6,6 +6,7 @@ ghost use Prim.Native.Nat.{_+_};
 ghost use lib.ListN.{length};
 ghost use Rattle.ring.specs.Answers.{keyPart, inSecond};
 ghost use Rattle.sheet.specs.Reader.{entryOf, partOf};
+ghost use Rattle.fasta.specs.Parts.{headerOf, headerAt, restOf, restAt};
 
 #[no_mangle]
 pub extern "C" fn probe_key_part<'a>(
@@ -28,4 +29,20 @@ pub extern "C" fn probe_sheet_letters_part<'a>(bytes: &'a [u8], part: &mut &'a [
     ensures { λ _. ⌜ (now (part .exit) .ptr .0 ≡ bytes .entry .ptr .0) × (now (part .exit) .ptr .1 ≡ bytes .entry .ptr .1 + entryOf (now (bytes .entry)) .before) ⌝ }
 {
     *part = sheet::letters(bytes);
+}
+
+#[no_mangle]
+pub extern "C" fn probe_fasta_header_part<'a>(text: &'a [u8], part: &mut &'a [u8])
+    ensures { λ _. ⌜ now (part .exit) .now ≡ headerOf (now (text .entry)) ⌝ }
+    ensures { λ _. ⌜ (now (part .exit) .ptr .0 ≡ text .entry .ptr .0) × (now (part .exit) .ptr .1 ≡ text .entry .ptr .1 + headerAt (now (text .entry))) ⌝ }
+{
+    *part = fasta::header(text);
+}
+
+#[no_mangle]
+pub extern "C" fn probe_fasta_rest_part<'a>(text: &'a [u8], part: &mut &'a [u8])
+    ensures { λ _. ⌜ now (part .exit) .now ≡ restOf (now (text .entry)) ⌝ }
+    ensures { λ _. ⌜ (now (part .exit) .ptr .0 ≡ text .entry .ptr .0) × (now (part .exit) .ptr .1 ≡ text .entry .ptr .1 + restAt (now (text .entry))) ⌝ }
+{
+    *part = fasta::rest(text);
 }

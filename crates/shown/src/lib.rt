@@ -1,4 +1,4 @@
-// What the programs `ring_cases` and `sheet_cases` print with, and the part of a room or table that they lend.
+// What the programs `ring_cases`, `sheet_cases` and `fasta_cases` print with, and the part of a room or table that they lend.
 mod answers;
 mod lend;
 mod show;

@@ -9,7 +9,7 @@ use std::fmt::{Debug, Display};
 
 /// The first difference ends the run.
 fn differ(call: impl Display, kind: u8, ring: &[u8], what: String) -> ! {
-    let shown = if ring.len() <= 64 { String::from_utf8_lossy(ring).into_owned() } else { format!("{} letters", ring.len()) };
+    let shown = if ring.len() <= 64 { ring.escape_ascii().to_string() } else { format!("{} letters", ring.len()) };
     eprintln!("DIFFERENCE in {call}, kind {kind}, ring {shown} {:?}: {what}", &ring[..ring.len().min(64)]);
     std::process::exit(1)
 }
@@ -28,7 +28,17 @@ impl Comparison {
         Comparison { calls: 0, numbers: Numbers::new(1) }
     }
 
-    /// Runs one call with values lent to it: enough, more than enough, and now and then one too few.
+    /// How many values the next call is lent: enough, more than enough, and now and then one too few.
+    pub(crate) fn values(&self, fields: usize) -> usize {
+        let turn = self.calls + 1;
+        if turn % 29 == 0 {
+            fields - 1
+        } else {
+            fields + (turn % 3) as usize
+        }
+    }
+
+    /// Runs one call with some number of values lent to it.
     pub(crate) fn call(
         &mut self,
         name: impl Display,
@@ -38,24 +48,39 @@ impl Comparison {
         fields: &[u64],
         run: impl FnOnce(&mut Lent<u64>) -> u8,
     ) {
+        self.told(name, kind, ring, self.values(fields.len()), (number, fields), run);
+    }
+
+    /// Runs one call with `size` values lent to it, which it leaves alone where its fields are more.
+    pub(crate) fn told(
+        &mut self,
+        name: impl Display,
+        kind: u8,
+        ring: &[u8],
+        size: usize,
+        (number, fields): (u8, &[u64]),
+        run: impl FnOnce(&mut Lent<u64>) -> u8,
+    ) {
         self.calls += 1;
-        let few = self.calls % 29 == 0;
-        let size = if few { fields.len() - 1 } else { fields.len() + (self.calls % 3) as usize };
         let salt = self.numbers.next();
         let mut values = Lent::room(size, |i| salt.wrapping_mul(i as u64 + 3));
         let got = run(&mut values);
         if got != number {
             differ(name, kind, ring, format!("the number is {got}, not {number}"));
         }
-        if let Err(what) = values.holds(if few { &[] } else { fields }) {
+        if let Err(what) = values.holds(if size < fields.len() { &[] } else { fields }) {
             differ(name, kind, ring, format!("of the values {what}; the fields are {fields:?}"));
         }
     }
 
     /// A ring lent for reading, with letters round it that a call must not look at.
     pub(crate) fn lend(&mut self, ring: &[u8]) -> Lent<u8> {
-        let around = [b'A', b'T', 0, 255, b'C'][self.numbers.below(5)];
-        Lent::holding(ring, around)
+        self.lend_amid(ring, &[b'A', b'T', 0, 255, b'C'])
+    }
+
+    /// Bytes lent for reading, with one of `around` all round them.
+    pub(crate) fn lend_amid(&mut self, bytes: &[u8], around: &[u8]) -> Lent<u8> {
+        Lent::holding(bytes, around[self.numbers.below(around.len())])
     }
 
     pub(crate) fn bytes(&mut self, size: usize) -> Lent<u8> {

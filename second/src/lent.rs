@@ -27,6 +27,10 @@ impl<T: Copy + PartialEq + Debug> Lent<T> {
         self.size
     }
 
+    pub fn entries(&self) -> &[T] {
+        &self.whole[MARGIN..MARGIN + self.size]
+    }
+
     pub fn front(&self) -> *const T {
         self.whole[MARGIN..].as_ptr()
     }

@@ -8,7 +8,7 @@ use crate::sheets::Sheet;
 /// What a lent part holds before a call: bytes that are lent to no call.
 static ELSEWHERE: [u8; 5] = *b"where";
 
-fn elsewhere() -> Lent<Part> {
+pub(crate) fn elsewhere() -> Lent<Part> {
     Lent::room(1, |_| Part { at: ELSEWHERE.as_ptr(), size: ELSEWHERE.len() })
 }
 

@@ -72,6 +72,10 @@ mod c {
         pub fn probe_sheet_original(bytes: *const u8, n: usize, room: *mut u8, r: usize, values: *mut u64, v: usize) -> u8;
         pub fn probe_sheet_walk(book: *const u8, n: usize, values: *mut u64, v: usize) -> u8;
         pub fn probe_report(input: *const u8, n: usize, room: *mut u8, r: usize, values: *mut u64, v: usize) -> u8;
+        pub fn probe_fasta(text: *const u8, n: usize, room: *mut u8, r: usize, values: *mut u64, v: usize) -> u8;
+        pub fn probe_fasta_find(text: *const u8, n: usize, values: *mut u64, v: usize) -> u8;
+        pub fn probe_fasta_header(text: *const u8, n: usize, values: *mut u64, v: usize) -> u8;
+        pub fn probe_fasta_rest(text: *const u8, n: usize, values: *mut u64, v: usize) -> u8;
         pub fn probe_key_part(
             kind: u8,
             ring: *const u8,
@@ -83,6 +87,8 @@ mod c {
             part: *mut super::Part,
         );
         pub fn probe_sheet_letters_part(bytes: *const u8, n: usize, part: *mut super::Part);
+        pub fn probe_fasta_header_part(text: *const u8, n: usize, part: *mut super::Part);
+        pub fn probe_fasta_rest_part(text: *const u8, n: usize, part: *mut super::Part);
     }
 }
 
@@ -201,6 +207,25 @@ pub fn report(input: &Bytes, room: &mut Bytes, values: &mut Values) -> u8 {
     unsafe { c::probe_report(input.front(), n, room.front_mut(), r, values.front_mut(), v) }
 }
 
+// The text of a record is a slice alone: the record behind it is read in what remains of the same text.
+
+pub fn fasta(text: &[u8], room: &mut Bytes, values: &mut Values) -> u8 {
+    let (r, v) = (room.size(), values.size());
+    unsafe { c::probe_fasta(text.as_ptr(), text.len(), room.front_mut(), r, values.front_mut(), v) }
+}
+
+pub fn fasta_find(text: &[u8], values: &mut Values) -> u8 {
+    unsafe { c::probe_fasta_find(text.as_ptr(), text.len(), values.front_mut(), values.size()) }
+}
+
+pub fn fasta_header(text: &[u8], values: &mut Values) -> u8 {
+    unsafe { c::probe_fasta_header(text.as_ptr(), text.len(), values.front_mut(), values.size()) }
+}
+
+pub fn fasta_rest(text: &[u8], values: &mut Values) -> u8 {
+    unsafe { c::probe_fasta_rest(text.as_ptr(), text.len(), values.front_mut(), values.size()) }
+}
+
 pub fn key_part(kind: u8, ring: &Bytes, first: &mut Bytes, second: &mut Bytes, part: &mut Lent<Part>) {
     let (n, f, s) = (ring.size(), first.size(), second.size());
     let (first, second, part) = (first.front_mut(), second.front_mut(), part.front_mut());
@@ -209,4 +234,12 @@ pub fn key_part(kind: u8, ring: &Bytes, first: &mut Bytes, second: &mut Bytes, p
 
 pub fn sheet_letters_part(bytes: &Bytes, part: &mut Lent<Part>) {
     unsafe { c::probe_sheet_letters_part(bytes.front(), bytes.size(), part.front_mut()) }
+}
+
+pub fn fasta_header_part(text: &[u8], part: &mut Lent<Part>) {
+    unsafe { c::probe_fasta_header_part(text.as_ptr(), text.len(), part.front_mut()) }
+}
+
+pub fn fasta_rest_part(text: &[u8], part: &mut Lent<Part>) {
+    unsafe { c::probe_fasta_rest_part(text.as_ptr(), text.len(), part.front_mut()) }
 }

@@ -1,27 +1,9 @@
-//! Times each call of the library beside plain Rust on the same rings, in one run.
+//! Times each call of the library beside plain Rust on the same rings and texts, in one run.
 use second::cases::{self, Numbers};
 use second::lent::Lent;
-use second::{duels, keys, long, plain, probe, process_times, report, sheets};
+use second::timing::time;
+use second::{duels, fasta_times, keys, long, plain, probe, process_times, report, sheets};
 use std::hint::black_box;
-use std::time::Instant;
-
-/// Nanoseconds a letter: the best of 15 batches, each long enough to be read off the clock.
-fn time(n: usize, mut run: impl FnMut()) -> f64 {
-    run();
-    let begun = Instant::now();
-    run();
-    let once = begun.elapsed().as_nanos().max(1) as f64;
-    let times = (1.0e6 / once).ceil().max(1.0) as usize;
-    let mut best = f64::MAX;
-    for _ in 0..15 {
-        let begun = Instant::now();
-        for _ in 0..times {
-            run();
-        }
-        best = best.min(begun.elapsed().as_nanos() as f64 / times as f64);
-    }
-    best / n as f64
-}
 
 struct Row {
     call: &'static str,
@@ -176,6 +158,8 @@ fn main() {
         let mean = |rings: &[Vec<u8>]| rings.iter().map(pairs).sum::<f64>() / rings.len() as f64;
         println!("| {family} | {:.2} | {:.2} |", mean(small), mean(&large));
     }
+    println!();
+    fasta_times::print();
     println!();
     let rings: Vec<(&str, Vec<u8>)> =
         lengths.iter().flat_map(|&n| families(n)).map(|(family, mut rings)| (family, rings.swap_remove(0))).collect();

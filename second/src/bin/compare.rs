@@ -1,4 +1,4 @@
-//! Compares the library with the second program on many rings. One line for each stage, or the first difference.
+//! Compares the library with the second program on many rings and texts. One line for each stage, or the first difference.
 use second::cases::{self, Numbers};
 use second::comparison::Comparison;
 use second::deposit_cases::{every_key, every_mark};
@@ -6,7 +6,7 @@ use second::long_sheets::{changed, cut, marks, wrong_letters};
 use second::report_comparison::{processes, reports};
 use second::ring_cases::{refusals, ring, sizes};
 use second::sheet_cases::{damaged, sheet, trailers};
-use second::{facts, report};
+use second::{facts, fasta_cases, report};
 use std::time::Instant;
 
 /// Bytes for the letters A, C, G, T of a feature ring: in their order, against it, and mixed.
@@ -14,7 +14,7 @@ const CODES: [[u8; 4]; 3] = [[0, 127, 128, 255], [255, 128, 127, 0], [128, 0, 25
 
 type Stage = fn(&mut Comparison, &mut Numbers);
 
-const STAGES: [(&str, Stage); 12] = [
+const STAGES: [(&str, Stage); 20] = [
     ("refusals and their collisions", |c, _| refusals(c)),
     ("every ring over AC to 15, AT to 11, ACGT to 8, six bytes to 5", every_ring),
     ("sizes of tables and rooms, letters judged as keys, pairs of rings", every_size),
@@ -27,6 +27,14 @@ const STAGES: [(&str, Stage); 12] = [
     ("sheets to 8,192 letters with wrong letters", far_letters),
     ("sheets to 8,192 letters with bytes and marks changed, cut, and with bytes before", long_damage),
     ("reports in rooms about 160,000 bytes", reports),
+    ("FASTA texts with known answers, values of every number to 8", |c, _| fasta_cases::known(c)),
+    ("every FASTA text to 7 bytes over eight bytes", |c, _| fasta_cases::every_text(c)),
+    ("a FASTA file of three records, every part of it", |c, _| fasta_cases::every_cut(c)),
+    ("that file with every byte changed to every value, put in, dropped", |c, _| fasta_cases::every_change(c)),
+    ("random FASTA texts", fasta_cases::random_texts),
+    ("four plasmids as three programs write them", |c, _| fasta_cases::rings(c)),
+    ("those files damaged and cut", fasta_cases::damaged_rings),
+    ("records about the limit, long headers, many blanks and lines", long_texts),
 ];
 
 fn every_ring(c: &mut Comparison, numbers: &mut Numbers) {
@@ -144,6 +152,11 @@ fn long_damage(c: &mut Comparison, numbers: &mut Numbers) {
     }
 }
 
+fn long_texts(c: &mut Comparison, numbers: &mut Numbers) {
+    fasta_cases::limits(c, numbers);
+    fasta_cases::far(c);
+}
+
 /// The second program's two ways agree where both can run.
 fn agree(alphabet: &[u8], longest: usize) {
     cases::every(alphabet, longest, |ring| {
@@ -164,6 +177,7 @@ fn main() {
     };
     agree(b"AC", 11);
     agree(b"ACGT", 5);
+    fasta_cases::plain_agrees(6);
     for (what, stage) in STAGES {
         stage(&mut c, &mut numbers);
         println!("{:>6.1} s  {:>9} calls  {what}", begun.elapsed().as_secs_f64(), c.calls);

@@ -11,11 +11,11 @@ use Rattle.words.specs.keys.Kind.{isLetter}
 use Rattle.words.proofs.order.Search.{by-test, tabled-at}
 use Rattle.fasta.specs.Lines.{space, upper}
 use Rattle.fasta.specs.Answers.{baseKind}
-use Rattle.fasta.specs.Bases.{baseOf, baseTable}
+use Rattle.fasta.specs.Bases.{baseOf, bytes, baseTable}
 
-pub base-at : (b : ℕ) → b < 256 → getD baseTable b 0 ≡ baseOf b
+pub base-at : (b : ℕ) → b < bytes → getD baseTable b 0 ≡ baseOf b
 unfolding baseTable
-base-at b h = tabled-at baseOf 256 b h
+base-at b h = tabled-at baseOf bytes b h
 
 -- a letter of a base ring stands from A to T
 pub record Between (b : ℕ) : Type 0 where

@@ -12,5 +12,9 @@ use Rattle.fasta.specs.Answers.{baseKind}
 unfoldable pub baseOf : ℕ → ℕ
 baseOf b = cond (isLetter baseKind (upper b)) (upper b) 0
 
+-- how many values a byte has
+abbrev pub bytes : ℕ
+bytes = 256
+
 unfoldable pub baseTable : List ℕ
-baseTable = tabled baseOf 256
+baseTable = tabled baseOf bytes

@@ -1,4 +1,4 @@
--- 01's examples of what is printed, by computation.
+-- 01's and 02's examples of what is printed, by computation.
 -- Assumes nothing.
 use mathlib.Core.Path.{_≡_, refl}
 use mathlib.Core.List.{List, [], _∷_}
@@ -26,6 +26,15 @@ gattaca =
 pub report-gattaca : reportOf (71 ∷ 65 ∷ 84 ∷ 84 ∷ 65 ∷ 67 ∷ 65 ∷ 10 ∷ []) ≡ gattaca
 unfolding stranded reading around start lowest opposite strand keyStart key longest factors factorTable leastSuffix suffixTable startTable repeat duels pairs meet forward lower upper verdict decimal headLine factorLine suffixLine startLine keyLine fiveLines
 report-gattaca = refl
+
+-- "ACGAC gives 5, ACAC 2 .. in `ringline` too" (02, request 2): "0 5 3 5 6", "0 4 0 2 5"
+pub head-acgac : headLine (65 ∷ 67 ∷ 71 ∷ 65 ∷ 67 ∷ []) ≡ 48 ∷ 32 ∷ 53 ∷ 32 ∷ 51 ∷ 32 ∷ 53 ∷ 32 ∷ 54 ∷ 10 ∷ []
+unfolding reading around start repeat duels pairs meet forward lower upper decimal headLine
+head-acgac = refl
+
+pub head-acac : headLine (65 ∷ 67 ∷ 65 ∷ 67 ∷ []) ≡ 48 ∷ 32 ∷ 52 ∷ 32 ∷ 48 ∷ 32 ∷ 50 ∷ 32 ∷ 53 ∷ 10 ∷ []
+unfolding reading around start repeat duels pairs meet forward lower upper decimal headLine
+head-acac = refl
 
 -- "GAN gives 3 2"
 pub report-gan : reportOf (71 ∷ 65 ∷ 78 ∷ []) ≡ 51 ∷ 32 ∷ 50 ∷ 10 ∷ []

@@ -62,7 +62,7 @@ module _ (w : List ℕ) (p : Printable w) where
   start-small = omega (arith, start-is w (p .permitted .some) .within, p .within)
 
   pub repeat-small : repeat w ≤ longest
-  repeat-small = omega (arith, repeat-is w (p .permitted .some) .repeats .within, p .within)
+  repeat-small = omega (arith, repeat-is w (p .permitted .some) .turns .within, p .within)
 
   pub pairs-small : pairs w ≤ 3 * longest
   pairs-small = omega (arith, pairs-three w, p .within)

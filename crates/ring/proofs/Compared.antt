@@ -13,7 +13,7 @@ use Rattle.words.specs.rings.Ring.{reading, start, lowest}
 use Rattle.words.specs.keys.Strand.{opposite, onStrand, strand, key, OneRing}
 use Rattle.words.proofs.order.Search.{either, by-test}
 use Rattle.words.proofs.keys.Strand.{length-strand}
-use Rattle.words.proofs.keys.TurnBack.{length-lowest}
+use Rattle.words.proofs.rings.Turn.{length-lowest}
 use Rattle.words.proofs.keys.Molecule.{one-key, one-ring, one-lowest, lowest-one}
 use Rattle.ring.specs.declared.judge.Verdict.{Verdict}
 use Rattle.ring.specs.declared.judge.Verdict.the-variants.{Taken}

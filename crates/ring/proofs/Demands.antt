@@ -1,26 +1,28 @@
--- The three demands on the calls on rings: read this after `specs/`. Every theorem is about what a public call answers and what it
--- leaves in the lent tables and rooms; `Contracts` shows that whatever meets a call's contract is such a call.
+-- The three demands on the calls on rings, and request 2 of 02: read this after `specs/`. Every theorem is about what a public call
+-- answers and what it leaves in the lent tables and rooms; `Contracts` shows that whatever meets a call's contract is such a call.
 -- Assumes nothing.
 use mathlib.Core.Path.{_≡_, refl, sym, ap, _∙_}
 use mathlib.Core.Logic.{_↔_}
 use mathlib.Core.Bool.{true, false, cond}
 use mathlib.Core.List.{List, [], _∷_}
-use Prim.Native.Nat.{ℕ, _≤_, _<_, _-_}
+use Prim.Native.Nat.{ℕ, _≤_, _<_, _-_, _%_}
 use native.Mathlib.Omega.{arith}
 use borrow.Author.Tests.{eq-eqb}
 use lib.Dec.{eqb}
 use lib.ListN.{length, take, getD}
 use lib.Seq.{take-at}
 use Rattle.words.specs.keys.Kind.{stranded}
-use Rattle.words.specs.rings.Ring.{IsStart, start, lowest}
-use Rattle.words.specs.keys.Strand.{opposite, key}
+use Rattle.words.specs.rings.Ring.{IsStart, start, lowest, Lowest}
+use Rattle.words.specs.keys.Strand.{opposite, key, OneRing}
 use Rattle.words.specs.factors.Factor.{factorTable}
 use Rattle.words.specs.suffixes.Prefix.{IsLeastSuffix, leastSuffix, suffixTable, startTable}
-use Rattle.words.specs.repeats.Repeat.{IsRepeat}
+use Rattle.words.specs.repeats.Repeat.{IsRepeat, repeat, WordTimes, Along}
 use Rattle.words.specs.duels.Duel.{duels, pairs}
 use Rattle.words.proofs.order.Search.{by-test}
 use Rattle.words.proofs.rings.Ring.{start-is}
-use Rattle.words.proofs.repeats.Repeat.{repeat-is, repeat-one}
+use Rattle.words.proofs.repeats.Repeat.{repeat-is, repeat-one, repeat-divides, lowest-along}
+use Rattle.words.proofs.repeats.Word.{lowest-word}
+use Rattle.words.proofs.keys.Molecule.{repeat-molecule}
 use Rattle.words.proofs.factors.Runs.{table-few}
 use Rattle.words.proofs.suffixes.Prefix.{leastSuffix-is, length-suffixTable, suffixTable-at, length-startTable, startTable-at}
 use Rattle.ring.specs.declared.judge.Verdict.{Verdict}
@@ -39,12 +41,14 @@ use Rattle.ring.proofs.Entries.{divided, prefix-is}
 use Rattle.ring.proofs.KeyOf.{key-of, key-only}
 use Rattle.ring.proofs.KeyPart.{part-refused, marked-key, part-done, rooms-hold, roomy}
 use Rattle.ring.proofs.Keyed.{rooms-ruled}
-use Rattle.ring.proofs.Exactly.{taken-is, taken-permitted}
+use Rattle.ring.proofs.Exactly.{taken-is, taken-permitted, permitted-taken}
+use Rattle.ring.proofs.Permits.{permitted-molecule}
+use Rattle.ring.proofs.Replies.{repeated-done}
 use Rattle.ring.proofs.AsKey.{key-ruled}
 use Rattle.ring.proofs.Deposited.{deposit-ruled, deposited, deposit-only}
 use Rattle.ring.proofs.Compared.{length-key, compared-exactly, compared-no, plain-no, six-first, yes-keys, yes-one}
 use Rattle.ring.proofs.Verdicts.{number-permitted}
-use Rattle.ring.proofs.Routes.{one-start}
+use Rattle.ring.proofs.Routes.{route-duels, one-start}
 
 -- ==== 1. Every call takes every input; it declines by 01's number, in 01's order, exactly on the stated condition, and a call that
 -- declines has changed nothing
@@ -129,11 +133,33 @@ module _ {w : List ℕ} {kind : ℕ} {table left : List ℕ} where
   starts-start c z =
       rw (c .leaves) (prefix-is (verdict kind w (fewer (length table) w)) (startTable w) table (ap (λ (r : Checked). r .number) (sym (c .answer)) ∙ z) IsStart start start-is w (length-startTable w) (startTable-at w))
 
--- the repeat, and no other number is
-pub repeat-least : {w : List ℕ} {kind : ℕ} {r : Repeated} → RepeatCall w kind r → r .number ≡ 0 → IsRepeat w (r .repeat) × ((p : ℕ) → IsRepeat w p → p ≡ r .repeat)
-repeat-least {w} {kind} c z =
-    let e : numberOf (verdict kind w false) ≡ 0 = ap (λ (r : Repeated). r .number) (sym (c .answer)) ∙ z in
-    rw (c .answer, eq-eqb _ 0 e) (repeat-is w (number-permitted kind w false e .some), repeat-one w)
+-- the repeat (02, request 2)
+module _ {w : List ℕ} {kind : ℕ} {r : Repeated} (c : RepeatCall w kind r) (z : r .number ≡ 0) where
+  repeat-permitted : Permitted kind w
+  repeat-permitted = number-permitted kind w false (ap (λ (r : Repeated). r .number) (sym (c .answer)) ∙ z)
+
+  repeat-said : r ≡ record { number = 0; place = 0; repeat = repeat w }
+  repeat-said = c .answer ∙ sym (repeated-done w _ (permitted-taken kind w false repeat-permitted refl) _ refl)
+
+  -- "the smallest p from 1 to n such that turning the ring by p gives the same letters at every position" (02), and no other number is
+  pub repeat-smallest : IsRepeat w (r .repeat) × ((p : ℕ) → IsRepeat w p → p ≡ r .repeat)
+  repeat-smallest = rw repeat-said (repeat-is w (repeat-permitted .some), repeat-one w)
+
+  pub repeat-divides-n : length w % r .repeat ≡ 0
+  repeat-divides-n = rw repeat-said (repeat-divides w (repeat-permitted .some))
+
+  -- the lowest reading is a Lyndon word of that length, n / repeat times over
+  pub repeat-word : WordTimes (lowest w) (r .repeat)
+  repeat-word = rw repeat-said (lowest-word w (repeat-permitted .some))
+
+  -- every reading of the ring, and of its opposite strand for a kind that has one, has this answer
+  pub repeat-everywhere : {v : List ℕ} {q : Repeated} → OneRing kind w v → RepeatCall v kind q → q ≡ r
+  repeat-everywhere {v} o d =
+      rw repeat-said (d .answer ∙ sym (repeated-done v _ (permitted-taken kind v false (permitted-molecule kind w v repeat-permitted o) refl) _ (sym (repeat-molecule kind w v (repeat-permitted .some) o))))
+
+  -- the positions whose reading is lowest are the start that `duel` answers, the start plus the repeat, and so on below n
+  pub repeat-openings : {d : Fought} → DuelCall w kind d → (i : ℕ) → Lowest w i ↔ Along (length w) (d .start) (r .repeat) i
+  repeat-openings d i = rw (repeat-said, d .answer, route-duels kind w repeat-permitted) (lowest-along w (repeat-permitted .some) i)
 
 -- the key: its start and strand from `mark`; no other letters, start and strand are a key of the ring
 module _ {w : List ℕ} {kind : ℕ} {m : Marked} (c : MarkCall w kind m) (z : m .number ≡ 0) where

@@ -13,12 +13,12 @@ use Rattle.words.specs.order.Order.{before}
 use Rattle.words.specs.keys.Kind.{stranded}
 use Rattle.words.specs.rings.Ring.{reading, start, lowest}
 use Rattle.words.specs.keys.Strand.{opposite, onStrand, strand, keyStart, key}
-use Rattle.words.specs.repeats.Repeat.{ringRepeat}
+use Rattle.words.specs.repeats.Repeat.{repeat}
 use Rattle.words.proofs.order.Search.{either, by-test}
 use Rattle.words.proofs.rings.Ring.{start-is}
-use Rattle.words.proofs.rings.Turn.{length-reading, reading-back}
+use Rattle.words.proofs.rings.Turn.{length-reading, reading-back, start-of-lowest}
 use Rattle.words.proofs.keys.Strand.{opposite-twice, length-opposite, length-strand, strand-twice}
-use Rattle.words.proofs.keys.TurnBack.{start-of-lowest, start-low, lowest-opposite, start-back, lowest-back}
+use Rattle.words.proofs.keys.TurnBack.{start-low, lowest-opposite, start-back, lowest-back}
 use Rattle.ring.specs.Judging.{Permitted, verdict, taken}
 use Rattle.ring.specs.Strands.{leftTo}
 use Rattle.ring.specs.Answers.{equal, IsKey, deposit, isKey}
@@ -29,7 +29,7 @@ use Rattle.ring.proofs.Permits.{permitted-reading, permitted-lowest, pe
 pub record Fit (kind : ℕ) (k : List ℕ) (at s : ℕ) : Type 0 where
   pub permitted : Permitted kind k
   pub first : start k ≡ 0
-  pub below : at < ringRepeat k
+  pub below : at < repeat k
   pub plain : stranded kind ≡ false → s ≡ 0
   pub known : stranded kind ≡ true → s ≤ 1
   pub left : stranded kind ≡ true → leftTo k s ≡ true

@@ -12,7 +12,7 @@ use Rattle.words.specs.keys.Kind.{stranded}
 use Rattle.words.specs.rings.Ring.{lowest}
 use Rattle.words.specs.keys.Strand.{opposite, strand, keyStart, key}
 use Rattle.words.proofs.order.Search.{by-test}
-use Rattle.words.proofs.keys.TurnBack.{length-lowest}
+use Rattle.words.proofs.rings.Turn.{length-lowest}
 use Rattle.words.proofs.keys.Strand.{length-opposite}
 use Rattle.ring.specs.declared.judge.Verdict.{Verdict}
 use Rattle.ring.specs.declared.answer.Marked.{Marked}

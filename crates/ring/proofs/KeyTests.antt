@@ -10,10 +10,10 @@ use lib.Dec.{eqb}
 use lib.ListN.{length}
 use Rattle.words.specs.keys.Kind.{stranded}
 use Rattle.words.specs.factors.Factor.{FirstRun}
-use Rattle.words.specs.repeats.Repeat.{ringRepeat}
+use Rattle.words.specs.repeats.Repeat.{repeat}
 use Rattle.words.proofs.order.Search.{by-test}
 use Rattle.words.proofs.factors.Factor.{run-within}
-use Rattle.words.proofs.keys.Necklace.{run-start, run-more, run-repeat}
+use Rattle.words.proofs.repeats.Necklace.{run-start, run-more, run-repeat}
 use Rattle.ring.specs.Judging.{Permitted}
 use Rattle.ring.specs.Strands.{leftTo}
 use Rattle.ring.specs.Answers.{isKey}
@@ -26,16 +26,16 @@ module _ (kind : ℕ) (k : List ℕ) (at s : ℕ) where
     test-more n = not-fit kind k at s (λ f. run-more k size end r (let z = n in omega (arith, run-within k size end r)) (f .first))
 
     module _ (e : end ≡ length k) where
-      repeat-is : ringRepeat k ≡ size
-      repeat-is = run-repeat k size end r (p .some) e
+      repeat-size : repeat k ≡ size
+      repeat-size = run-repeat k size end r (p .some) e
 
-      -- the start is not below the ring repeat
+      -- the start is not below the repeat
       pub test-late : size ≤ at → false ≡ isKey kind k at s
-      test-late h = not-fit kind k at s (λ f. omega (arith, f .below, repeat-is))
+      test-late h = not-fit kind k at s (λ f. omega (arith, f .below, repeat-size))
 
       module _ (b : at < size) where
         fits : (stranded kind ≡ false → s ≡ 0) → (stranded kind ≡ true → s ≤ 1) → (stranded kind ≡ true → leftTo k s ≡ true) → Fit kind k at s
-        fits x y z = record { permitted = p; first = run-start k size end r (p .some) e; below = rw repeat-is b; plain = x; known = y; left = z }
+        fits x y z = record { permitted = p; first = run-start k size end r (p .some) e; below = rw repeat-size b; plain = x; known = y; left = z }
 
         pub test-plain : stranded kind ≡ false → eqb s 0 ≡ isKey kind k at s
         test-plain t =

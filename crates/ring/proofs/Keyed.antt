@@ -13,7 +13,7 @@ use Rattle.words.specs.rings.Ring.{reading, start, lowest}
 use Rattle.words.specs.keys.Strand.{opposite, strand, keyStart}
 use Rattle.words.proofs.order.Search.{by-test, neither}
 use Rattle.words.proofs.keys.Strand.{length-opposite}
-use Rattle.words.proofs.keys.TurnBack.{length-lowest}
+use Rattle.words.proofs.rings.Turn.{length-lowest}
 use Rattle.ring.specs.declared.judge.Verdict.{Verdict}
 use Rattle.ring.specs.declared.judge.Verdict.the-variants.{Taken}
 use Rattle.ring.specs.declared.answer.Marked.{Marked}

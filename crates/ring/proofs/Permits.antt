@@ -1,6 +1,7 @@
--- A permitted ring stays one when it is turned, and so does its opposite strand.
+-- A permitted ring stays one when it is turned, and so does its opposite strand; so every ring that is the same molecule is permitted.
 -- Assumes nothing.
 use mathlib.Core.Path.{_≡_}
+use mathlib.Core.Logic.{⊎-elim}
 use mathlib.Core.Bool.{true}
 use mathlib.Core.List.{List}
 use Prim.Native.Nat.{ℕ, _≤_, _<_, _+_, _-_, _%_}
@@ -10,8 +11,8 @@ use borrow.Author.Tests.{eqb-true}
 use lib.Dec.{eqb}
 use lib.ListN.{length, getD}
 use Rattle.words.specs.keys.Kind.{isLetter, facing}
-use Rattle.words.specs.rings.Ring.{reading, around, lowest, start}
-use Rattle.words.specs.keys.Strand.{opposite, onStrand}
+use Rattle.words.specs.rings.Ring.{reading, around, lowest, start, IsReading}
+use Rattle.words.specs.keys.Strand.{opposite, onStrand, OneRing}
 use Rattle.words.proofs.order.Search.{by-test}
 use Rattle.words.proofs.rings.Ring.{start-is}
 use Rattle.words.proofs.rings.Turn.{length-reading, reading-at}
@@ -58,3 +59,11 @@ permitted-opposite kind w p =
 
 pub permitted-strand : (kind s : ℕ) (w : List ℕ) → Permitted kind w → Permitted kind (onStrand s w)
 permitted-strand kind s w p = by-test (eqb s 1) (λ t. rw t (permitted-opposite kind w p)) (λ t. rw t p)
+
+-- so a ring that is the same molecule is permitted too
+permitted-of-reading : (kind : ℕ) (u v : List ℕ) → Permitted kind u → IsReading u v → Permitted kind v
+permitted-of-reading kind u v p r = rw (r .is) (permitted-reading kind u (r .at) (omega (arith, r .within)) p)
+
+pub permitted-molecule : (kind : ℕ) (u v : List ℕ) → Permitted kind u → OneRing kind u v → Permitted kind v
+permitted-molecule kind u v p =
+    ⊎-elim (permitted-of-reading kind u v p) (λ r. permitted-of-reading kind (opposite u) v (permitted-opposite kind u p) (r .1))

@@ -23,7 +23,7 @@ module _ (kind : ℕ) (w : List ℕ) (p : Permitted kind w) where
   route-factors : (size : ℕ) → length w ≤ size → factoredOf kind w size .start ≡ start w
   route-factors size h = rw (roomed kind w size p h) (route-is w (p .some))
 
-  route-duels : foughtOf kind w .start ≡ start w
+  pub route-duels : foughtOf kind w .start ≡ start w
   route-duels = rw (permitted-taken kind w _ p refl) (ap startOf (duels-end w (p .some)))
 
   route-table : (t : List ℕ) → length w ≤ length t → getD (startsTable kind w t) (length w - 1) 0 ≡ start w

@@ -71,7 +71,7 @@ foughtAs v w = record { number = numberOf v; place = placeOf v; start = field v 
 abbrev pub foughtOf : ℕ → List ℕ → Fought
 foughtOf kind w = foughtAs (verdict kind w false) w
 
--- ---- the repeat (01, "Letters, rings, readings")
+-- ---- the repeat (02, request 2)
 
 abbrev pub repeatedAs : Verdict → List ℕ → Repeated
 repeatedAs v w = record { number = numberOf v; place = placeOf v; repeat = field v (repeat w) }

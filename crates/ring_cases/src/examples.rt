@@ -1,4 +1,4 @@
-// The rules' examples: the ten rows, the repeat of ACGAC, rings that are one, and rings of both kinds.
+// The rules' examples: the ten rows, ACGAC, rings that are one, and rings of both kinds.
 use super::calls::compare;
 use super::calls::every;
 use shown::text;
@@ -17,7 +17,7 @@ pub fn rows() {
     every(b"GATTACA", 1);
 }
 
-// More rings: the repeat 3, and the same letters as a feature ring.
+// More rings: ACGAC, whose letters come again in a line but not round the ring, and feature rings.
 pub fn more() {
     every(b"ACGAC", 1);
     every(b"GATTACA", 0);

@@ -7,6 +7,7 @@ mod edges;
 mod examples;
 mod keys;
 mod letters;
+mod repeats;
 mod tables;
 mod turns;
 
@@ -14,6 +15,8 @@ fn main() {
     examples::rows();
     examples::more();
     examples::pairs();
+    repeats::again();
+    repeats::once();
     edges::short();
     edges::both();
     edges::full();

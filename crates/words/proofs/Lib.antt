@@ -5,7 +5,7 @@ pub mod order
 pub mod rings
 -- Lyndon words and factors, found letter by letter; the factor route
 pub mod factors
--- The repeat and the ring repeat, and how far letters match the front of a word
+-- The repeat of a ring; how far letters match the front of a word
 pub mod repeats
 -- Kinds, the opposite strand, the key; rings of one key, and a key turned back
 pub mod keys

@@ -7,7 +7,7 @@ use Rattle.words.specs.keys.Strand.{opposite, strand, keyStart, key}
 use Rattle.words.specs.factors.Factor.{longest, factors, factorTable}
 use Rattle.words.specs.suffixes.Prefix.{leastSuffix, suffixTable, startTable}
 use Rattle.words.specs.keys.Kind.{stranded}
-use Rattle.words.specs.repeats.Repeat.{repeat, ringRepeat}
+use Rattle.words.specs.repeats.Repeat.{repeat}
 use Rattle.words.specs.duels.Duel.{duels, pairs, meet, forward, lower, upper}
 use Rattle.words.specs.Table.{answered, rows, A, C, G, T}
 
@@ -16,13 +16,12 @@ pub table : map (λ r. answered (r .ring)) rows ≡ rows
 unfolding reading around start lowest stranded opposite strand keyStart key longest factors factorTable duels meet forward lower upper
 table = refl
 
--- what the document says besides of GATTACA, and of the repeat of ACGAC, and 02 of the ring repeat and the pairs of AA
+-- what 01 says besides of GATTACA, and 02 of the repeats of ACGAC and ACAC and of the pairs of AA
 pub also : ((suffixTable (G ∷ A ∷ T ∷ T ∷ A ∷ C ∷ A ∷ []) ≡ 0 ∷ 1 ∷ 1 ∷ 1 ∷ 4 ∷ 4 ∷ 6 ∷ [])
     × (startTable (G ∷ A ∷ T ∷ T ∷ A ∷ C ∷ A ∷ []) ≡ 0 ∷ 1 ∷ 1 ∷ 1 ∷ 4 ∷ 4 ∷ 4 ∷ [])
     × (repeat (G ∷ A ∷ T ∷ T ∷ A ∷ C ∷ A ∷ []) ≡ 7)
-    × (repeat (A ∷ C ∷ G ∷ A ∷ C ∷ []) ≡ 3)
-    × (ringRepeat (A ∷ C ∷ G ∷ A ∷ C ∷ []) ≡ 5)
-    × (ringRepeat (A ∷ C ∷ A ∷ C ∷ []) ≡ 2)
+    × (repeat (A ∷ C ∷ G ∷ A ∷ C ∷ []) ≡ 5)
+    × (repeat (A ∷ C ∷ A ∷ C ∷ []) ≡ 2)
     × (pairs (A ∷ A ∷ []) ≡ 2))
-unfolding reading around duels pairs meet forward lower upper start leastSuffix suffixTable startTable repeat ringRepeat
-also = (refl, refl, refl, refl, refl, refl, refl)
+unfolding reading around duels pairs meet forward lower upper start leastSuffix suffixTable startTable repeat
+also = (refl, refl, refl, refl, refl, refl)

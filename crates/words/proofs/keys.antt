@@ -2,5 +2,4 @@
 pub mod Kind
 pub mod Strand
 pub mod Molecule
-pub mod Necklace
 pub mod TurnBack

@@ -1,4 +1,7 @@
--- The repeat and the ring repeat, and how far letters match the front of a word
+-- The repeat of a ring; how far letters match the front of a word
 pub mod Match
 pub mod Repeat
-pub mod RingRepeat
+pub mod Turned
+pub mod Necklace
+pub mod Word
+pub mod Closing

@@ -1,4 +1,4 @@
--- The repeat and the ring repeat, and how far letters match the front of a word
+-- The repeat of a ring; how far letters match the front of a word
 pub mod Repeat
 -- What only the contracts of inner functions cite
 pub mod Match

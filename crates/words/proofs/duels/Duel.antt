@@ -1,4 +1,4 @@
--- The duels: what a loop over them keeps, a step, and what it has at each end: the start, the pairs, the ring repeat.
+-- The duels: what a loop over them keeps, a step, and what it has at each end: the start, the pairs, the repeat.
 -- Assumes nothing.
 use mathlib.Core.Path.{_≡_, refl, sym, ap, _∙_}
 use mathlib.Core.Logic.{_⊎_, inl, inr}
@@ -9,13 +9,13 @@ use native.Mathlib.Nat.{eq-or-lt-of-le, mod-lt, mod-eq-of-lt}
 use borrow.Author.Tests.{le-leb, lt-leb, lt-ltb, le-ltb}
 use lib.ListN.{length}
 use Rattle.words.specs.rings.Ring.{around, start, Lowest}
-use Rattle.words.specs.repeats.Repeat.{ringRepeat}
+use Rattle.words.specs.repeats.Repeat.{repeat}
 use Rattle.words.specs.duels.Paired.{Paired, Met}
 use Rattle.words.specs.duels.Duel.{going, ended, meet, forward, lower, upper, movedP, movedQ, fight, fought, duels, pairs, pairsOf}
 use Rattle.words.proofs.order.Search.{either, lt-or-ge}
 use Rattle.words.proofs.rings.Ring.{start-is, start-lowest}
 use Rattle.words.proofs.rings.Turn.{around-right}
-use Rattle.words.proofs.repeats.RingRepeat.{Period, period-all, period-between, ring-repeat-is, ring-period, ring-multiple, start-below, lowest-on}
+use Rattle.words.proofs.repeats.Repeat.{Period, period-rest, period-between, repeat-is, repeat-period, repeat-multiple, start-below, lowest-on}
 use Rattle.words.proofs.duels.Beaten.{cleared, meet-is, settled}
 
 -- the duels of w have come to p, q and c; each lowest position is p, or is no less than q
@@ -34,7 +34,7 @@ pub record Answer (w : List ℕ) (p c g : ℕ) : Type 0 where
   pub start : p ≡ start w
   pub pairs : c ≡ pairs w
   pub few : c ≤ 3 * length w - 4
-  pub repeat : g ≡ ringRepeat w
+  pub repeat : g ≡ repeat w
 
 pub run-first : (w : List ℕ) → 0 < length w → Run w 0 1 0
 unfolding duels
@@ -54,7 +54,7 @@ ended-stays : (f : ℕ) (w : List ℕ) (p c : ℕ) → fought f w (ended p c) �
 ended-stays zero w p c = refl
 ended-stays (suc f) w p c = ended-stays f w p c
 
-answer : (w : List ℕ) (p c g : ℕ) → duels w ≡ ended p c → p ≡ start w → c ≤ 3 * length w - 4 → g ≡ ringRepeat w → Answer w p c g
+answer : (w : List ℕ) (p c g : ℕ) → duels w ≡ ended p c → p ≡ start w → c ≤ 3 * length w - 4 → g ≡ repeat w → Answer w p c g
 unfolding pairs
 answer w p c g e s f r = record { ended = e; start = s; pairs = sym (ap pairsOf e); few = f; repeat = r }
 
@@ -67,12 +67,12 @@ module _ (w : List ℕ) (n : 0 < length w) (p q c : ℕ) (r : Run w p q c) where
   only : length w ≤ q → (s : ℕ) → Lowest w s → s ≡ p
   only h s i = either (r .left s i) (λ e. e) (λ l. absurd (omega (arith, i .within)))
 
-  alone : length w ≤ q → length w ≡ ringRepeat w
+  alone : length w ≤ q → length w ≡ repeat w
   alone h =
-      let g : ℕ = ringRepeat w in
+      let g : ℕ = repeat w in
       let b : start w < g = start-below w n in
-      either (eq-or-lt-of-le (ring-repeat-is w n .turns .within)) sym
-      (λ l. let d : Period w (length w - g) = λ j. let e : j + (length w - g) + g ≡ j + length w = omega arith in sym (ring-period w n (j + (length w - g))) ∙ rw e (period-all w j) in
+      either (eq-or-lt-of-le (repeat-is w n .turns .within)) sym
+      (λ l. let d : Period w (length w - g) = period-rest w g (omega arith) (repeat-period w n) in
       absurd (omega (arith, only h (start w) first, only h _ (lowest-on w n (start w) _ (length w - g) first d refl (omega arith)))))
 
   pub run-out : length w ≤ q → Answer w p c (length w)
@@ -91,18 +91,18 @@ module _ (w : List ℕ) (n : 0 < length w) (p q c : ℕ) (r : Run w p q c) where
           period-between w p q (omega (arith, r .order)) (omega (arith, r .order))
           (λ j. sym (around-right w p j) ∙ a (j % length w) (mod-lt j n) ∙ around-right w q j)
 
-      enough-on : ringRepeat w ≤ q - p
+      enough-on : repeat w ≤ q - p
       enough-on =
-          either (lt-or-ge (q - p) (ringRepeat w)) (λ x. absurd (omega (arith, mod-eq-of-lt x, ring-multiple w n (q - p) period, r .order))) (λ x. x)
+          either (lt-or-ge (q - p) (repeat w)) (λ x. absurd (omega (arith, mod-eq-of-lt x, repeat-multiple w n (q - p) period, r .order))) (λ x. x)
 
       is-start : p ≡ start w
       is-start = either (r .left (start w) first) sym (λ z. absurd (omega (arith, start-below w n, enough-on)))
 
-      is-repeat : q - p ≡ ringRepeat w
+      is-repeat : q - p ≡ repeat w
       is-repeat =
-          let g : ℕ = ringRepeat w in
+          let g : ℕ = repeat w in
           either (eq-or-lt-of-le enough-on) sym
-          (λ x. let i = lowest-on w n (start w) (p + g) g first (ring-period w n) (rw is-start) (omega arith) in
+          (λ x. let i = lowest-on w n (start w) (p + g) g first (repeat-period w n) (rw is-start) (omega arith) in
           absurd (either (r .left (p + g) i) (λ e. omega (arith, start-below w n)) (λ z. omega arith)))
 
       pub run-same : Answer w p (c + length w) (q - p)

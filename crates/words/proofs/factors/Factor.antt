@@ -2,7 +2,7 @@
 -- Assumes nothing.
 use mathlib.Core.Path.{_≡_, refl, sym, ap, _∙_}
 use mathlib.Core.Bool.{true}
-use mathlib.Core.List.{List, [], _∷_, _++_, append-assoc}
+use mathlib.Core.List.{List, [], _∷_, _++_, append-nil, append-assoc}
 use Prim.Native.Nat.{ℕ, zero, suc, _≤_, _<_, _+_, _-_, _*_}
 use native.Mathlib.Omega.{arith}
 use native.Mathlib.Nat.{zero-mul, suc-mul}
@@ -169,6 +169,11 @@ factors-first (a ∷ w) h =
 pub length-copies : (e : ℕ) (u : List ℕ) → length (flat (copies e u)) ≡ e * length u
 length-copies zero u = rw zero-mul
 length-copies (suc e) u = rw (length-append, length-copies e u, suc-mul) (omega arith)
+
+-- one more copy, behind or before
+pub copies-behind : (e : ℕ) (u : List ℕ) → flat (copies e u) ++ u ≡ u ++ flat (copies e u)
+copies-behind zero u = sym (append-nil u)
+copies-behind (suc e) u = append-assoc u (flat (copies e u)) u ∙ ap (λ x. u ++ x) (copies-behind e u)
 
 pub flat-append : (fs gs : List (List ℕ)) → flat (fs ++ gs) ≡ flat fs ++ flat gs
 flat-append [] gs = refl

@@ -13,7 +13,7 @@ use Rattle.words.specs.order.Least.{better}
 use Rattle.words.specs.rings.Ring.{IsStart, reading, start}
 use Rattle.words.specs.factors.Lyndon.{Lyndon}
 use Rattle.words.specs.factors.Factor.{flat, Under, factors, copies, FirstRun, RunHead}
-use Rattle.words.proofs.order.Search.{either}
+use Rattle.words.proofs.order.Search.{either, by-test}
 use Rattle.words.proofs.order.Order.{cancel-left, decided, decided-more, decided-long}
 use Rattle.words.proofs.rings.Ring.{start-is, least-strict, better-old, better-new, better-either}
 use Rattle.words.proofs.factors.Factor.{factors-are, factors-below, flat-append, run-split, run-word}
@@ -129,6 +129,27 @@ module _ (w : List ℕ) (m p e : ℕ) (r : FirstRun (drop m w) p e) where
   -- the best so far stays where the run's head reads no lower
   pub best-old : (b : ℕ) → m < length w → Best w m b → before (reading w m) (reading w b) ≡ false → Best w (m + e) b
   best-old b h k t = rw t at (best-next b h k)
+
+-- ---- the run at the best so far
+
+-- p and e are the length and the end of the run at b; while no run is passed, b is 0 and they say nothing
+pub data BestRun (w : List ℕ) (m b p e : ℕ) : Type 0 where
+  none : m ≡ 0 → b ≡ 0 → BestRun w m b p e
+  some : FirstRun (drop b w) p e → BestRun w m b p e
+
+-- the best so far is now m: its run is the one found there
+pub best-run-new : (w : List ℕ) (m n c p e : ℕ) → FirstRun (drop m w) p e → c ≡ m → BestRun w n c p e
+best-run-new w m n c p e r q = some (rw q r)
+
+-- it is not m: its run stays
+pub best-run-old : (w : List ℕ) (m n b p e : ℕ) → BestRun w m b p e → (better (reading w) m b ≡ m → ⊥) → BestRun w n (better (reading w) m b) p e
+best-run-old w m n b p e (none x y) d = absurd (d (better-either (λ k. k ≡ m) (reading w) m b refl (y ∙ sym x)))
+best-run-old w m n b p e (some r) d =
+    by-test (before (reading w m) (reading w b)) (λ t. absurd (d (rw t))) (λ t. rw t (some r))
+
+pub best-run-last : (w : List ℕ) (m b p e : ℕ) → 0 < m → BestRun w m b p e → FirstRun (drop b w) p e
+best-run-last w m b p e h (none x y) = absurd (omega arith)
+best-run-last w m b p e h (some r) = r
 
 -- ---- the same, factor by factor: a Lyndon word f stands at m
 

@@ -1,14 +1,30 @@
--- The length and the end of a first run are determined; the factor table has an entry for each factor, no more than there are letters, and they ascend.
+-- A word that has letters has a first run, whose length and end are determined; the factor table has an entry for each factor, no more than there are letters, and they ascend.
 -- Assumes nothing.
 use mathlib.Core.Path.{_≡_, refl, sym, ap, _∙_}
 use mathlib.Core.List.{List, [], _∷_, _++_}
 use Prim.Native.Nat.{ℕ, zero, suc, _≤_, _<_, _+_}
 use native.Mathlib.Omega.{arith}
+use native.Mathlib.Nat.{eq-or-lt-of-le}
 use lib.ListN.{length, take, drop, getD, length-append}
 use Rattle.words.specs.order.Order.{_≺_}
 use Rattle.words.specs.factors.Factor.{Under, flat, copies, factors, firsts, factorTable, FirstRun}
+use Rattle.words.proofs.order.Search.{either, lt-or-ge}
 use Rattle.words.proofs.order.Order.{prefix-le}
 use Rattle.words.proofs.factors.Factor.{factors-are, factors-below}
+use Rattle.words.proofs.factors.Scan.{Scan, scan-first, scan-equal, scan-greater, scan-end}
+
+-- a scan goes on to a lesser letter or to the end
+run-on : (fuel : ℕ) (s : List ℕ) (j k : ℕ) → Scan s j k → length s ≤ j + fuel → (p : ℕ) × (e : ℕ) × FirstRun s p e
+run-on zero s j k a h = (_, _, scan-end s j k a (λ l. absurd (omega arith)))
+run-on (suc f) s j k a h =
+    either (lt-or-ge j (length s))
+    (λ l. either (lt-or-ge (getD s j 0) (getD s k 0)) (λ m. (_, _, scan-end s j k a (λ x. m)))
+    (λ m. either (eq-or-lt-of-le m) (λ e. run-on f s (j + 1) (k + 1) (scan-equal s j k a l e) (omega arith)) (λ g. run-on f s (j + 1) 0 (scan-greater s j k a l g) (omega arith))))
+    (λ l. (_, _, scan-end s j k a (λ x. absurd (omega arith))))
+
+-- a word that has letters has a first run
+pub first-run : (s : List ℕ) → 0 < length s → (p : ℕ) × (e : ℕ) × FirstRun s p e
+first-run s h = run-on (length s) s 1 0 (scan-first s h) (omega arith)
 
 -- what is less than u does not have u for its first factor
 not-first : (u y : List ℕ) → y ≺ u → (fs : List (List ℕ)) → factors y ≡ u ∷ fs → ⊥

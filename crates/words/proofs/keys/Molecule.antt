@@ -1,7 +1,8 @@
--- Two rings have one key just when one is a turn of the other or, for a kind with an opposite strand, of the other's opposite strand.
+-- Two rings have one key just when one is a turn of the other or, for a kind with an opposite strand, of the other's opposite strand; and then
+-- one repeat.
 -- Assumes nothing.
 use mathlib.Core.Path.{_≡_, refl, sym, ap, _∙_}
-use mathlib.Core.Logic.{_⊎_, inl, inr}
+use mathlib.Core.Logic.{_⊎_, inl, inr, ⊎-elim}
 use mathlib.Core.Bool.{true, false, cond}
 use mathlib.Core.List.{List, append-nil}
 use Prim.Native.Nat.{ℕ, _≤_, _<_, _-_}
@@ -12,10 +13,12 @@ use lib.Seq.{take-length, drop-length}
 use Rattle.words.specs.order.Order.{before}
 use Rattle.words.specs.keys.Kind.{known, stranded, strands}
 use Rattle.words.specs.rings.Ring.{reading, lowest, IsReading}
+use Rattle.words.specs.repeats.Repeat.{Turns, repeat}
 use Rattle.words.specs.keys.Strand.{opposite, strand, key, OneRing}
 use Rattle.words.proofs.order.Order.{before-true, before-false, Tri, tri, less, same, more, lt-le}
 use Rattle.words.proofs.order.Search.{either, by-test}
-use Rattle.words.proofs.rings.Turn.{lowest-reading, lowest-of-reading, reading-of-lowest}
+use Rattle.words.proofs.rings.Turn.{reading-back, lowest-reading, lowest-of-reading, reading-of-lowest}
+use Rattle.words.proofs.repeats.Turned.{same-turns, repeat-of-reading}
 use Rattle.words.proofs.keys.Strand.{opposite-twice, opposite-reading, length-opposite}
 
 -- the lesser of two words, the first if they are equal
@@ -120,3 +123,24 @@ strand-below kind w k =
     by-test (stranded kind)
     (λ t. by-test (before (lowest (opposite w)) (lowest w)) (λ b. rw (k, t, b) (omega arith)) (λ b. rw (k, t, b) (omega arith)))
     (λ t. rw (k, t) (omega arith))
+
+-- ---- rings that are one molecule have one repeat: where a ring is turned by p, its opposite strand is turned by n - p
+
+turns-over : (w : List ℕ) (p : ℕ) → Turns w p → Turns (opposite w) p
+turns-over w p t =
+    let h : p ≤ length w = t .within in
+    let n : length (opposite w) ≡ length w = length-opposite w in
+    let e : length (opposite w) - (length w - p) ≡ p = omega arith in
+    let a : reading (opposite w) (length w - p) ≡ opposite w = sym (opposite-reading w p) ∙ ap opposite (t .same) in
+    let b : reading (reading (opposite w) (length w - p)) p ≡ opposite w =
+    rw e at (reading-back (opposite w) (length w - p) (omega arith) (omega (arith, t .some))) in
+    record { some = t .some; within = omega arith; same = ap (λ x. reading x p) (sym a) ∙ b }
+
+turns-under : (w : List ℕ) (p : ℕ) → Turns (opposite w) p → Turns w p
+turns-under w p t = rw opposite-twice at (turns-over (opposite w) p t)
+
+pub repeat-opposite : (w : List ℕ) → 0 < length w → repeat (opposite w) ≡ repeat w
+repeat-opposite w l = same-turns w (opposite w) l (turns-over w) (turns-under w)
+
+pub repeat-molecule : (kind : ℕ) (u v : List ℕ) → 0 < length u → OneRing kind u v → repeat v ≡ repeat u
+repeat-molecule kind u v h = ⊎-elim (repeat-of-reading u v) (λ r. repeat-of-reading (opposite u) v (r .1) ∙ repeat-opposite u h)

@@ -1,4 +1,5 @@
--- Readings by letters round the ring; a reading of a reading; rings whose lowest readings are equal are readings of each other.
+-- Readings by letters round the ring; a reading of a reading; a lowest reading is its own; rings whose lowest readings are equal are readings of
+-- each other.
 -- Assumes nothing.
 use mathlib.Core.Path.{_≡_, sym, ap, _∙_}
 use mathlib.Core.List.{List, append-nil}
@@ -7,10 +8,11 @@ use native.Mathlib.Omega.{arith}
 use native.Mathlib.Nat.{mod-add-mod, add-mod-mod, mod-lt, mod-eq-of-lt, mod-eq-sub-mod, add-mod-right, mod-self, add-assoc}
 use lib.ListN.{length, take, drop, getD, length-append, length-drop, length-take, List·getD-append}
 use lib.Seq.{getD-drop, getD-take, getD-append-add, ext-getD}
-use Rattle.words.specs.rings.Ring.{IsStart, reading, around, lowest, IsReading}
+use Rattle.words.specs.order.Order.{_≼_}
+use Rattle.words.specs.rings.Ring.{IsStart, reading, around, start, lowest, IsReading}
 use Rattle.words.proofs.order.Order.{le-antisym}
 use Rattle.words.proofs.order.Search.{either, lt-or-ge}
-use Rattle.words.proofs.rings.Ring.{start-is}
+use Rattle.words.proofs.rings.Ring.{start-is, start-one}
 
 pub length-reading : (w : List ℕ) (i : ℕ) → i ≤ length w → length (reading w i) ≡ length w
 unfolding reading
@@ -94,6 +96,29 @@ meeting u v s t h l e =
 pub reading-of-lowest : (u v : List ℕ) → 0 < length u → 0 < length v → lowest v ≡ lowest u → IsReading u v
 unfolding lowest
 reading-of-lowest u v p q e = meeting u v _ _ (start-is u p .within) (start-is v q .within) e
+
+-- ---- a lowest reading is its own
+
+pub length-lowest : (w : List ℕ) → 0 < length w → length (lowest w) ≡ length w
+unfolding lowest
+length-lowest w h = length-reading w (start w) (omega (arith, start-is w h .within))
+
+-- where a reading is the lowest of the ring, it is its own lowest reading
+own-start : (w : List ℕ) → 0 < length w → ((j : ℕ) → j < length w → w ≼ reading w j) → start w ≡ 0
+own-start w h f = sym (start-one w 0 (record { within = h; lowest = λ j l. rw reading-zero (f j l); first = λ j l m. omega arith }))
+
+pub start-of-lowest : (w : List ℕ) → 0 < length w → start (lowest w) ≡ 0
+unfolding lowest
+start-of-lowest w h =
+    let s : start w < length w = start-is w h .within in
+    let n : length (reading w (start w)) ≡ length w = length-reading w (start w) (omega arith) in
+    own-start (reading w (start w)) (rw n h)
+    (λ j l. let k : j < length w = rw n at l in
+    rw (reading-reading w (start w) j (omega arith) (omega arith) h) (start-is w h .lowest _ (mod-lt _ h)))
+
+pub own-lowest : (w : List ℕ) → start w ≡ 0 → lowest w ≡ w
+unfolding lowest
+own-lowest w z = ap (reading w) z ∙ reading-zero w
 
 -- the letter round the ring, below n and from n on
 pub around-in : (w : List ℕ) (i : ℕ) → i < length w → around w i ≡ getD w i 0

@@ -1,8 +1,8 @@
--- Letters that are their own lowest reading: those that are one run of equal factors; the ring repeat is then the factor's length.
+-- Letters that are their own lowest reading: those that are one run of equal factors; the repeat is then the factor's length.
 -- Assumes nothing.
 use mathlib.Core.Path.{_≡_, sym, ap, _∙_}
 use mathlib.Core.List.{List, _++_, append-nil, append-assoc}
-use Prim.Native.Nat.{ℕ, zero, suc, _<_, _+_}
+use Prim.Native.Nat.{ℕ, zero, suc, _≤_, _<_, _+_}
 use native.Mathlib.Omega.{arith}
 use native.Mathlib.Nat.{zero-add}
 use lib.ListN.{length, take, drop, length-append, length-drop}
@@ -11,16 +11,16 @@ use Rattle.words.specs.order.Order.{_≺_}
 use Rattle.words.specs.rings.Ring.{reading, start}
 use Rattle.words.specs.factors.Lyndon.{Lyndon}
 use Rattle.words.specs.factors.Factor.{flat, copies, FirstRun}
-use Rattle.words.specs.repeats.Repeat.{ringRepeat}
+use Rattle.words.specs.repeats.Repeat.{repeat}
 use Rattle.words.proofs.order.Search.{either, lt-or-ge}
 use Rattle.words.proofs.order.Order.{irrefl, before-false, append-left, decided, decided-more, decided-or-prefix}
 use Rattle.words.proofs.rings.Ring.{start-is}
 use Rattle.words.proofs.rings.Turn.{reading-zero}
 use Rattle.words.proofs.factors.Lyndon.{word-below}
-use Rattle.words.proofs.factors.Factor.{run-split, run-size, run-word}
+use Rattle.words.proofs.factors.Factor.{copies-behind, run-split, run-size, run-word}
 use Rattle.words.proofs.factors.Route.{inside}
 use Rattle.words.proofs.factors.Run.{Best, best-none, best-old, best-last, reading-split}
-use Rattle.words.proofs.repeats.RingRepeat.{ring-repeat-one}
+use Rattle.words.proofs.repeats.Repeat.{repeat-one}
 
 -- ---- one run: the start is 0
 
@@ -60,26 +60,27 @@ module _ (w : List ℕ) (p e : ℕ) (r : FirstRun w p e) where
       let l : reading w e ≺ reading w 0 = rw (a, b) (turned-lower (r .count) (take p w) (drop e w) (run-word w p e r) (r .less) (rw length-drop (omega arith)) (omega (arith, some, r .within))) in
       (rw z at (start-is w (omega arith) .lowest e h)) l
 
--- ---- one run: the ring repeat
+-- ---- one run: the repeat
 
-swap : (c : ℕ) (u : List ℕ) → flat (copies c u) ++ u ≡ u ++ flat (copies c u)
-swap zero u = sym (append-nil u)
-swap (suc c) u = append-assoc u (flat (copies c u)) u ∙ ap (λ x. u ++ x) (swap c u)
+pub run-whole : (w : List ℕ) (p e : ℕ) (r : FirstRun w p e) → e ≡ length w → w ≡ flat (copies (r .count) (take p w))
+run-whole w p e r q = run-split w p e r ∙ rw (q, drop-length, append-nil)
 
 turned-copies : (c : ℕ) (w u : List ℕ) → w ≡ flat (copies c u) → 0 < length w → (reading w (length u) ≡ w) × (b : List ℕ) × (w ≡ u ++ b)
 turned-copies zero w u e h = absurd (omega (arith, ap length e))
-turned-copies (suc c) w u e h = (reading-split w u (flat (copies c u)) e ∙ swap c u ∙ sym e, flat (copies c u), e)
+turned-copies (suc c) w u e h = (reading-split w u (flat (copies c u)) e ∙ copies-behind c u ∙ sym e, flat (copies c u), e)
 
-pub run-repeat : (w : List ℕ) (p e : ℕ) → FirstRun w p e → 0 < length w → e ≡ length w → ringRepeat w ≡ p
-run-repeat w p e r h q =
-    let u : List ℕ = take p w in
-    let n : length u ≡ p = run-size w p e r in
-    let s : w ≡ flat (copies (r .count) u) = run-split w p e r ∙ rw (q, drop-length, append-nil) in
-    let t = turned-copies (r .count) w u s h in
-    let y : Lyndon u = run-word w p e r in
-    sym (ring-repeat-one w p (record {
-      turns = record { some = omega (arith, y .some); within = omega (arith, r .within); same = rw n at (t .0) };
-      smallest = λ d k. either (lt-or-ge d p)
-          (λ l. absurd (irrefl (rw (zero-add, k .same, reading-zero) at (inside w u (t .1) 0 d (t .2) y (k .some) (omega arith)))))
+-- copies of a Lyndon word: no turn by fewer letters than it has gives the same letters
+pub copies-repeat : (c : ℕ) (w u : List ℕ) → Lyndon u → w ≡ flat (copies c u) → 0 < length w → repeat w ≡ length u
+copies-repeat c w u y e h =
+    let t = turned-copies c w u e h in
+    let n : length u ≤ length w = omega (arith, ap length (t .2), length-append u (t .1)) in
+    sym (repeat-one w (length u) (record {
+      turns = record { some = y .some; within = n; same = t .0 };
+      smallest = λ d k. either (lt-or-ge d (length u))
+          (λ l. absurd (irrefl (rw (zero-add, k .same, reading-zero) at (inside w u (t .1) 0 d (t .2) y (k .some) l))))
           (λ l. l);
     }))
+
+pub run-repeat : (w : List ℕ) (p e : ℕ) → FirstRun w p e → 0 < length w → e ≡ length w → repeat w ≡ p
+run-repeat w p e r h q =
+    copies-repeat (r .count) w (take p w) (run-word w p e r) (run-whole w p e r q) h ∙ run-size w p e r

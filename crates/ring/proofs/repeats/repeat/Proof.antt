@@ -1,13 +1,12 @@
--- `ring::periods::repeat` meets its contract.
+-- `ring::repeats::repeat` meets its contract.
 -- Assumes nothing.
 use mathlib.Core.Path.{sym, _∙_}
-use native.Mathlib.Omega.{arith}
 use Rattle.ring.proofs.Judging.{not-taken}
 use Rattle.ring.proofs.Replies.{repeated-refused, repeated-done}
 use Rattle.ring.proofs.Exactly.{taken-permitted}
 use borrow.Author.Needs.{needs}
-use Rattle.ring.proofs.periods.repeat.Statement.{statement}
-use Rattle.ring.proofs.periods.repeat.Tie as tie
+use Rattle.ring.proofs.repeats.repeat.Statement.{statement}
+use Rattle.ring.proofs.repeats.repeat.Tie as tie
 
 judge-requires : tie.Need-judge-requires
 judge-requires c κs = search needs
@@ -28,32 +27,29 @@ returns c =
     let r = not-taken (judged .judge .result) (c .before .before .match .keys2) in
     repeated-refused _ _ _ e r _ _ (c .before .number-of .ensures) (c .place-of .ensures)
 
-slice-aggregate-match-lengths : tie.Need-slice-aggregate-match-lengths
-slice-aggregate-match-lengths c = search needs
+facing-table-requires : tie.Need-facing-table-requires
+facing-table-requires c κs = search needs
 
-match-lengths-requires : tie.Need-match-lengths-requires
-match-lengths-requires c κs =
-    let judged : tie.After-judge = search in
-    let f = taken-permitted _ _ _ (sym (judged .judge .ensures) ∙ c .before .enum-told .given .1) in
-    (f .0 .some, omega (arith, f .0 .within), f .0 .within)
-
-slice-aggregate-first-period : tie.Need-slice-aggregate-first-period
-slice-aggregate-first-period c = search needs
-
-first-period-requires : tie.Need-first-period-requires
-first-period-requires c κs =
+start-run-requires : tie.Need-start-run-requires
+start-run-requires c κs =
     let judged : tie.After-judge = search in
     let told : tie.After-enum-told = search in
-    let f = taken-permitted _ _ _ (sym (judged .judge .ensures) ∙ told .enum-told .given .1) in
-    let m = c .before .before .match-lengths .ensures in
-    (f .0 .some, f .0 .within, omega (arith, f .0 .within, m .1 .size), m .0)
+    (c .before .facing-table .ensures, taken-permitted _ _ _ (sym (judged .judge .ensures) ∙ told .enum-told .given .1) .0 .some)
+
+repeat-of-requires : tie.Need-repeat-of-requires
+repeat-of-requires c κs =
+    let judged : tie.After-judge = search in
+    let told : tie.After-enum-told = search in
+    let found : tie.After-start-run = search in
+    let laid : tie.After-facing-table = search in
+    ((laid .facing-table .ensures, taken-permitted _ _ _ (sym (judged .judge .ensures) ∙ told .enum-told .given .1) .0 .some, found .start-run .ensures .0), found .start-run .ensures .1)
 
 returns-2 : tie.Need-returns-2
 returns-2 c =
     let judged : tie.After-judge = search in
     let told : tie.After-enum-told = search in
     let e = sym (judged .judge .ensures) ∙ told .enum-told .given .1 in
-    repeated-done _ _ e _ (c .first-period .ensures)
+    repeated-done _ _ e _ (c .repeat-of .ensures)
 
 pub repeat-spec : {M : Type 1} → statement M
 repeat-spec =
@@ -64,8 +60,7 @@ repeat-spec =
     number-of-requires
     place-of-requires
     returns
-    slice-aggregate-match-lengths
-    match-lengths-requires
-    slice-aggregate-first-period
-    first-period-requires
+    facing-table-requires
+    start-run-requires
+    repeat-of-requires
     returns-2)

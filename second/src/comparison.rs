@@ -150,6 +150,13 @@ impl Comparison {
         self.unchanged("alone", kind, ring, &lent, ring);
     }
 
+    /// The repeat alone, of a ring that is taken.
+    pub fn repeat(&mut self, kind: u8, ring: &[u8], repeat: usize) {
+        let lent = self.lend(ring);
+        self.call("repeat", kind, ring, 0, &[0, repeat as u64], |v| probe::repeat(kind, &lent, v));
+        self.unchanged("repeat", kind, ring, &lent, ring);
+    }
+
     /// The key with two rooms of the sizes given.
     pub fn rooms(&mut self, kind: u8, ring: &[u8], first: usize, second: usize, key: Option<&Key>) {
         let lent = self.lend(ring);

@@ -1,4 +1,5 @@
-//! All that the calls say of one ring, computed once: by the definitions for short rings, by the methods of `long` else.
+//! All that the calls say of one ring, computed once: by the definitions for short rings, by the methods of `long` else; the repeat by
+//! its definition for all.
 use crate::{duels, long, words};
 
 #[derive(Clone, Debug, PartialEq, Eq)]
@@ -46,6 +47,6 @@ pub fn by_other_methods(ring: &[u8]) -> Facts {
         starts: long::starts(ring),
         duel_start,
         pairs,
-        repeat: long::repeat(ring),
+        repeat: words::repeat(ring),
     }
 }

@@ -21,6 +21,7 @@ pub mod plain;
 pub mod plain_fasta;
 pub mod probe;
 pub mod process_times;
+pub mod repeat_cases;
 pub mod report;
 pub mod report_comparison;
 pub mod ring_cases;

@@ -72,7 +72,7 @@ pub fn suffixes(word: &[u8]) -> Vec<usize> {
     table
 }
 
-/// The length less the longest proper border.
+/// The length less the longest proper border, where that divides the length; else the length.
 pub fn repeat(ring: &[u8]) -> usize {
     let n = ring.len();
     let mut border = vec![0; n];
@@ -86,7 +86,8 @@ pub fn repeat(ring: &[u8]) -> usize {
         }
         border[i] = k;
     }
-    n - border[n - 1]
+    let period = n - border[n - 1];
+    if n % period == 0 { period } else { n }
 }
 
 /// Booth's least reading; `failure` is room for twice the letters.

@@ -218,12 +218,12 @@ pub fn starts(ring: &[u8], table: &mut [u16]) {
     }
 }
 
-/// The repeat, by match lengths in a table made for it.
-pub fn repeat(ring: &[u8]) -> usize {
+/// The repeat: the first position whose letters match the front to the end, by match lengths in a lent table, where it divides n; else n.
+pub fn repeat(ring: &[u8], table: &mut [u16]) -> usize {
     let n = ring.len();
-    let mut table = [0u16; 8192];
-    match_lengths(ring, &mut table);
-    (1..n).find(|&p| table[p] as usize == n - p).unwrap_or(n)
+    match_lengths(ring, table);
+    let period = (1..n).find(|&p| table[p] as usize == n - p).unwrap_or(n);
+    if n % period == 0 { period } else { n }
 }
 
 /// The start and strand of the key of a base ring, by Booth's method on both strands.

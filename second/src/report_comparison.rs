@@ -30,6 +30,10 @@ pub fn inputs(numbers: &mut Numbers) -> Vec<Vec<u8>> {
     {
         inputs.push(text.as_bytes().to_vec());
     }
+    // ACGAC, whose letters come again in a line but not round the ring, and rings that closed on themselves twice and three times
+    for text in ["ACGAC", "ACAC", "TACGTACG", "GATTACAGATTACAGATTACA"] {
+        inputs.push(text.as_bytes().to_vec());
+    }
     for n in [20, 100, 257, 1000] {
         inputs.extend(cases::families(numbers, n));
     }

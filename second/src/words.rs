@@ -49,10 +49,12 @@ pub fn factors(word: &[u8]) -> Vec<usize> {
     table
 }
 
-/// The smallest p from 1 to n such that every letter equals the letter p places on, where there is one.
+/// The smallest p from 1 to n such that turning the ring by p gives the same letters: each p is tried. Readings are parts of the
+/// ring written twice.
 pub fn repeat(ring: &[u8]) -> usize {
     let n = ring.len();
-    (1..=n).find(|&p| (0..n - p).all(|i| ring[i] == ring[i + p])).unwrap()
+    let twice = [ring, ring].concat();
+    (1..=n).find(|&p| twice[p..p + n] == *ring).unwrap()
 }
 
 /// The letter that faces a letter of a base ring.

@@ -24,7 +24,8 @@ impl Row {
     }
 }
 
-/// Each family's rings of n letters. The random ones are many, so that no run's branches are those of the run before.
+/// Each family's rings of n letters. The random ones are many, so that no run's branches are those of the run before; those of the
+/// last family closed on themselves twice.
 fn families(n: usize) -> Vec<(&'static str, Vec<Vec<u8>>)> {
     let mut numbers = Numbers::new(n as u64);
     vec![
@@ -34,6 +35,7 @@ fn families(n: usize) -> Vec<(&'static str, Vec<Vec<u8>>)> {
         ("(CA)^k", vec![cases::over(b"CA", n)]),
         ("Fibonacci", vec![cases::fibonacci(b'A', b'C', n)]),
         ("b^K a b^K (a b^j c)^J", vec![cases::far_back(n)]),
+        ("random, twice", (0..(1 << 17) / n).map(|_| cases::over(&numbers.word(b"ACGT", n / 2), n)).collect()),
     ]
 }
 
@@ -87,8 +89,8 @@ fn rows(family: &'static str, words: &[Vec<u8>]) -> Vec<Row> {
     row("duel", own, vec![("duels, unchecked", unchecked), ("duels, checked", duels)]);
 
     let own = each(&rings, n, |r| assert!(probe::repeat(1, r, &mut v) == 0));
-    let lengths = each(words, n, |w| assert!(plain::judged(w) && plain::repeat(w) > 0));
-    row("repeat", own, vec![("match lengths", lengths)]);
+    let lengths = each(words, n, |w| assert!(plain::judged(w) && plain::repeat(w, black_box(&mut room)) > 0));
+    row("repeat", own, vec![("match lengths, then division", lengths), ("factors of the library", factors)]);
 
     let mark = each(&rings, n, |r| assert!(probe::mark(1, r, &mut v) == 0));
     let both = each(words, n, |w| assert!(plain::judged(w) && black_box(plain::key_by_booth(w, &mut failure)).0 < n));

@@ -6,7 +6,7 @@ use second::long_sheets::{changed, cut, marks, wrong_letters};
 use second::report_comparison::{processes, reports};
 use second::ring_cases::{refusals, ring, sizes};
 use second::sheet_cases::{damaged, sheet, trailers};
-use second::{facts, fasta_cases, report};
+use second::{facts, fasta_cases, repeat_cases, report};
 use std::time::Instant;
 
 /// Bytes for the letters A, C, G, T of a feature ring: in their order, against it, and mixed.
@@ -14,7 +14,7 @@ const CODES: [[u8; 4]; 3] = [[0, 127, 128, 255], [255, 128, 127, 0], [128, 0, 25
 
 type Stage = fn(&mut Comparison, &mut Numbers);
 
-const STAGES: [(&str, Stage); 20] = [
+const STAGES: [(&str, Stage); 21] = [
     ("refusals and their collisions", |c, _| refusals(c)),
     ("every ring over AC to 15, AT to 11, ACGT to 8, six bytes to 5", every_ring),
     ("sizes of tables and rooms, letters judged as keys, pairs of rings", every_size),
@@ -24,6 +24,7 @@ const STAGES: [(&str, Stage); 20] = [
     ("families from 15 to 1,000 letters", families),
     ("random rings to 300 letters", random_rings),
     ("families to 8,192 letters, of bases and of bytes", long_rings),
+    ("repeats of words over and over to 8,192 letters, turned, on the other strand, changed", repeat_cases::powers),
     ("sheets to 8,192 letters with wrong letters", far_letters),
     ("sheets to 8,192 letters with bytes and marks changed, cut, and with bytes before", long_damage),
     ("reports in rooms about 160,000 bytes", reports),

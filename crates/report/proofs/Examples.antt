@@ -4,6 +4,7 @@ use mathlib.Core.Path.{_≡_, refl}
 use mathlib.Core.List.{List, [], _∷_}
 use Prim.Native.Nat.{ℕ}
 use Rattle.words.specs.keys.Kind.{stranded}
+use Rattle.words.specs.keys.Facing.{facingTable, facing}
 use Rattle.words.specs.rings.Ring.{reading, around, start, lowest}
 use Rattle.words.specs.keys.Strand.{opposite, strand, keyStart, key}
 use Rattle.words.specs.factors.Factor.{longest, factors, factorTable}
@@ -24,7 +25,7 @@ gattaca =
     ∷ 49 ∷ 32 ∷ 51 ∷ 32 ∷ 65 ∷ 65 ∷ 84 ∷ 67 ∷ 84 ∷ 71 ∷ 84 ∷ 10 ∷ []
 
 pub report-gattaca : reportOf (71 ∷ 65 ∷ 84 ∷ 84 ∷ 65 ∷ 67 ∷ 65 ∷ 10 ∷ []) ≡ gattaca
-unfolding stranded reading around start lowest opposite strand keyStart key longest factors factorTable leastSuffix suffixTable startTable repeat duels pairs meet forward lower upper verdict decimal headLine factorLine suffixLine startLine keyLine fiveLines
+unfolding stranded reading around start lowest facingTable facing opposite strand keyStart key longest factors factorTable leastSuffix suffixTable startTable repeat duels pairs meet forward lower upper verdict decimal headLine factorLine suffixLine startLine keyLine fiveLines
 report-gattaca = refl
 
 -- "ACGAC gives 5, ACAC 2 .. in `ringline` too" (02, request 2): "0 5 3 5 6", "0 4 0 2 5"

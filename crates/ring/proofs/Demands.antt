@@ -32,10 +32,10 @@ use Rattle.ring.specs.declared.answer.Fought.{Fought}
 use Rattle.ring.specs.declared.answer.Repeated.{Repeated}
 use Rattle.ring.specs.declared.answer.Marked.{Marked}
 use Rattle.ring.specs.declared.answer.Compared.{Compared}
-use Rattle.ring.specs.Judging.{Permitted, Given, verdict, taken, numberOf}
-use Rattle.ring.specs.Answers.{fewer, keyVerdict}
+use Rattle.ring.specs.Judging.{Permitted, Given, verdict, taken, numberOf, after}
+use Rattle.ring.specs.Answers.{fewer, checkedAs, factoredAs, foughtAs, repeatedAs, markedBy, keyVerdict, deposit}
 use Rattle.ring.specs.Calls.{CheckCall, FactorsCall, SuffixesCall, StartsCall, DuelCall, RepeatCall, MarkCall, WriteLettersCall, WriteKeyCall, KeyCall, CheckKeyCall, WriteDepositCall, CompareCall}
-use Rattle.ring.specs.Demands.{lent, AsRuled, LacksRoom, GivenKey, GivenOf, Divided, KeyOf, OneStart, OneMolecule}
+use Rattle.ring.specs.Demands.{lent, AsRuled, LacksRoom, GivenKey, GivenOf, Divided, KeyOf, OneStart, OneMolecule, OverBases}
 use Rattle.ring.proofs.Numbers.{nothing-lent, ruled, table-ruled}
 use Rattle.ring.proofs.Entries.{divided, prefix-is}
 use Rattle.ring.proofs.KeyOf.{key-of, key-only}
@@ -49,6 +49,7 @@ use Rattle.ring.proofs.Deposited.{deposit-ruled, deposited, deposit-onl
 use Rattle.ring.proofs.Compared.{length-key, compared-exactly, compared-no, plain-no, six-first, yes-keys, yes-one}
 use Rattle.ring.proofs.Verdicts.{number-permitted}
 use Rattle.ring.proofs.Routes.{route-duels, one-start}
+use Rattle.ring.proofs.EitherKind.{verdict-either, marked-either, lettered-either, keyed-either, part-either, front-either, back-either, same-either, asKey-either}
 
 -- ==== 1. Every call takes every input; it declines by 01's number, in 01's order, exactly on the stated condition, and a call that
 -- declines has changed nothing
@@ -226,3 +227,66 @@ module _ {kind : ℕ} {u v : List ℕ} (p : Permitted kind u) (q : Permitted kin
 pub duel-one-letter : {a kind : ℕ} {d : Fought} → DuelCall (a ∷ []) kind d → (d .start ≡ 0) × (d .pairs ≡ 0)
 unfolding duels pairs
 duel-one-letter {a} {kind} c = by-test (taken (verdict kind (a ∷ []) false)) (λ t. rw (c .answer, t) (refl, refl)) (λ t. rw (c .answer, t) (refl, refl))
+
+-- ==== 4. What is answered of a ring over A, C, G, T, and what is left in a table or room, is the same as kind 1 and as kind 2 (02, request 3)
+
+module _ {w : List ℕ} (o : OverBases w) where
+  pub check-either : {q r : Checked} → CheckCall w 1 q → CheckCall w 2 r → r ≡ q
+  check-either c d = d .answer ∙ ap checkedAs (verdict-either w o false) ∙ sym (c .answer)
+
+  pub factors-either : {table one two : List ℕ} {q r : Factored} → FactorsCall w 1 table q one → FactorsCall w 2 table r two → (r ≡ q) × (two ≡ one)
+  factors-either {table} c d =
+      let e = verdict-either w o (fewer (length table) w) in
+      (d .answer ∙ ap (λ v. factoredAs v w) e ∙ sym (c .answer), d .leaves ∙ ap (λ v. after v (factorTable w) table) e ∙ sym (c .leaves))
+
+  pub suffixes-either : {table one two : List ℕ} {q r : Checked} → SuffixesCall w 1 table q one → SuffixesCall w 2 table r two → (r ≡ q) × (two ≡ one)
+  suffixes-either {table} c d =
+      let e = verdict-either w o (fewer (length table) w) in
+      (d .answer ∙ ap checkedAs e ∙ sym (c .answer), d .leaves ∙ ap (λ v. after v (suffixTable w) table) e ∙ sym (c .leaves))
+
+  pub starts-either : {table one two : List ℕ} {q r : Checked} → StartsCall w 1 table q one → StartsCall w 2 table r two → (r ≡ q) × (two ≡ one)
+  starts-either {table} c d =
+      let e = verdict-either w o (fewer (length table) w) in
+      (d .answer ∙ ap checkedAs e ∙ sym (c .answer), d .leaves ∙ ap (λ v. after v (startTable w) table) e ∙ sym (c .leaves))
+
+  pub duel-either : {q r : Fought} → DuelCall w 1 q → DuelCall w 2 r → r ≡ q
+  duel-either c d = d .answer ∙ ap (λ v. foughtAs v w) (verdict-either w o false) ∙ sym (c .answer)
+
+  pub repeat-either : {q r : Repeated} → RepeatCall w 1 q → RepeatCall w 2 r → r ≡ q
+  repeat-either c d = d .answer ∙ ap (λ v. repeatedAs v w) (verdict-either w o false) ∙ sym (c .answer)
+
+  pub mark-either : {q r : Marked} → MarkCall w 1 q → MarkCall w 2 r → r ≡ q
+  mark-either c d = d .answer ∙ marked-either w o false ∙ sym (c .answer)
+
+  pub write-letters-either : {room one two : List ℕ} {q r : Marked} → WriteLettersCall w 1 room q one → WriteLettersCall w 2 room r two → (r ≡ q) × (two ≡ one)
+  write-letters-either {room} c d =
+      (d .answer ∙ marked-either w o (fewer (length room) w) ∙ sym (c .answer), d .leaves ∙ lettered-either w o room ∙ sym (c .leaves))
+
+  -- both rooms
+  pub write-key-either : {first second a b a' b' : List ℕ} {q r : Marked} → WriteKeyCall w 1 first second q a b → WriteKeyCall w 2 first second r a' b'
+      → (r ≡ q) × (a' ≡ a) × (b' ≡ b)
+  write-key-either {first} {second} c d = (
+    d .answer ∙ keyed-either w o (length first) (length second) ∙ sym (c .answer),
+    d .front ∙ front-either w o first (length second) ∙ sym (c .front),
+    d .back ∙ back-either w o (length first) second ∙ sym (c .back),
+  )
+
+  -- the key's letters, and where they stand
+  pub key-either : {first second k l : List ℕ} {i j at there : ℕ × ℕ} → KeyCall w 1 first second i j k at → KeyCall w 2 first second i j l there → (l ≡ k) × (there ≡ at)
+  key-either {first} {second} {i = i} {j = j} c d = (
+    d .is ∙ part-either w o (length first) (length second) ∙ sym (c .is),
+    d .stands ∙ ap (λ (m : Marked). cond (eqb (m .strand) 1) j i) (keyed-either w o (length first) (length second)) ∙ sym (c .stands),
+  )
+
+  -- letters judged as a key
+  module _ {at s : ℕ} where
+    pub check-key-either : {q r : Marked} → CheckKeyCall w 1 at s q → CheckKeyCall w 2 at s r → r ≡ q
+    check-key-either c d = d .answer ∙ ap (λ v. markedBy v (length w) at s) (asKey-either w o at s false) ∙ sym (c .answer)
+
+    pub write-deposit-either : {room one two : List ℕ} {q r : Marked} → WriteDepositCall w 1 at s room q one → WriteDepositCall w 2 at s room r two → (r ≡ q) × (two ≡ one)
+    write-deposit-either {room} c d =
+        let e = asKey-either w o at s (fewer (length room) w) in
+        (d .answer ∙ ap (λ v. markedBy v (length w) at s) e ∙ sym (c .answer), d .leaves ∙ ap (λ v. after v (deposit w at s) room) e ∙ sym (c .leaves))
+
+pub compare-either : {u v : List ℕ} → OverBases u → OverBases v → {q r : Compared} → CompareCall u v 1 q → CompareCall u v 2 r → r ≡ q
+compare-either {u} {v} o p c d = d .answer ∙ rw (verdict-either u o false, verdict-either v p false, same-either u v) (sym (c .answer))

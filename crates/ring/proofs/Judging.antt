@@ -43,10 +43,6 @@ module _ (kind : ℕ) (w : List ℕ) (i : ℕ) (p : Passed kind w i) where
       let e : firstBad kind (drop i w) ≡ 0 = rw (let z : i ≡ length w = omega (arith, p .within) in z, drop-length) in
       omega (arith, p .rest)
 
--- the last letter of four
-pub letter-last : (kind a : ℕ) → (kind ≡ 0 → ⊥) → (a ≡ 65 → ⊥) → (a ≡ 67 → ⊥) → (a ≡ 71 → ⊥) → isLetter kind a ≡ eqb a 84
-letter-last kind a k x y z = rw (ne-eqb kind 0 k, ne-eqb a 65 x, ne-eqb a 67 y, ne-eqb a 71 z)
-
 -- ---- the verdict, rule by rule
 
 module _ (kind : ℕ) (w : List ℕ) (short : Bool) where

@@ -1,6 +1,6 @@
 -- The laws of the ring rules; what each function's proof cites, and the theorems above the contracts
 pub mod Judging
-pub mod Facings
+pub mod Letters
 pub mod Laid
 pub mod Replies
 pub mod Routing
@@ -25,4 +25,5 @@ pub mod AsKey
 pub mod Deposit
 pub mod Deposited
 pub mod Routes
+pub mod EitherKind
 pub mod Demands

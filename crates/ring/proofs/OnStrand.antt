@@ -9,14 +9,15 @@ use borrow.Author.Tests.{eq-eqb, ne-eqb}
 use lib.Dec.{ltb, eqb}
 use lib.ListN.{length, take, drop, getD, length-drop, length-take, take-append-drop}
 use lib.Seq.{take-at, drop-at, take-all}
-use Rattle.words.specs.keys.Kind.{facing}
+use Rattle.words.specs.keys.Facing.{facing}
 use Rattle.words.specs.order.Order.{before}
 use Rattle.words.specs.rings.Ring.{reading, around}
 use Rattle.words.specs.duels.Paired.{Paired, Met}
 use Rattle.words.specs.keys.Strand.{opposite, onStrand}
 use Rattle.words.proofs.order.Search.{by-test}
 use Rattle.words.proofs.duels.Paired.{before-at, before-same}
-use Rattle.words.proofs.keys.Strand.{facing-twice, length-opposite, length-strand, opposite-at, opposite-append}
+use Rattle.words.proofs.keys.Facing.{facing-twice}
+use Rattle.words.proofs.keys.Strand.{length-opposite, length-strand, opposite-at, opposite-append}
 use Rattle.words.proofs.rings.Turn.{around-in, around-out}
 use Rattle.ring.specs.OnStrand.{placeOn, shownOn}
 use Rattle.ring.specs.Answers.{equal}

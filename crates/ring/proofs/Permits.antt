@@ -7,26 +7,17 @@ use mathlib.Core.List.{List}
 use Prim.Native.Nat.{ℕ, _≤_, _<_, _+_, _-_, _%_}
 use native.Mathlib.Omega.{arith}
 use native.Mathlib.Nat.{mod-lt}
-use borrow.Author.Tests.{eqb-true}
 use lib.Dec.{eqb}
 use lib.ListN.{length, getD}
-use Rattle.words.specs.keys.Kind.{isLetter, facing}
+use Rattle.words.specs.keys.Kind.{isLetter}
 use Rattle.words.specs.rings.Ring.{reading, around, lowest, start, IsReading}
 use Rattle.words.specs.keys.Strand.{opposite, onStrand, OneRing}
 use Rattle.words.proofs.order.Search.{by-test}
 use Rattle.words.proofs.rings.Ring.{start-is}
 use Rattle.words.proofs.rings.Turn.{length-reading, reading-at}
+use Rattle.words.proofs.keys.Facing.{facing-letter}
 use Rattle.words.proofs.keys.Strand.{length-opposite, opposite-at}
 use Rattle.ring.specs.Judging.{Permitted}
-
--- the letter opposite is a letter
-facing-letter : (kind a : ℕ) → isLetter kind a ≡ true → isLetter kind (facing a) ≡ true
-facing-letter kind a h =
-    by-test (eqb kind 0) (λ t. rw t)
-    (λ t. by-test (eqb a 65) (λ e. rw (t, eqb-true a 65 e))
-    (λ e. by-test (eqb a 84) (λ f. rw (t, eqb-true a 84 f))
-    (λ f. by-test (eqb a 67) (λ g. rw (t, eqb-true a 67 g))
-    (λ g. by-test (eqb a 71) (λ i. rw (t, eqb-true a 71 i)) (λ i. simp (t, e, f, g, i) (simp (t, e, f, g, i) at h))))))
 
 around-letter : (kind : ℕ) (w : List ℕ) (i : ℕ) → Permitted kind w → isLetter kind (around w i) ≡ true
 unfolding around

@@ -7,7 +7,7 @@ use mathlib.Core.List.{List, [], _∷_}
 use Prim.Native.Nat.{ℕ, suc, _≤_, _<_, _-_, _*_}
 use lib.ListN.{length, take, drop, getD}
 use Rattle.words.specs.order.Order.{_≺_, _≼_}
-use Rattle.words.specs.keys.Kind.{stranded}
+use Rattle.words.specs.keys.Kind.{isLetter, stranded}
 use Rattle.words.specs.rings.Ring.{IsStart, reading, lowest}
 use Rattle.words.specs.keys.Strand.{opposite, onStrand, OneRing}
 use Rattle.words.specs.factors.Factor.{IsFactors, firsts}
@@ -112,3 +112,9 @@ pub record OneStart (w : List ℕ) (f : Factored) (d : Fought) (table : List ℕ
 pub record OneMolecule (kind : ℕ) (u v : List ℕ) (c : Compared) (k l : List ℕ) : Type 0 where
   pub keys : (c .same ≡ true) ↔ (k ≡ l)
   pub molecule : (c .same ≡ true) ↔ OneRing kind u v
+
+-- ---- kind 2 beside kind 1 (02, request 3)
+
+-- every byte is one of A, C, G, T: the letters of a base ring (01)
+abbrev pub OverBases : List ℕ → Type 0
+OverBases w = (i : ℕ) → i < length w → isLetter 1 (getD w i 0) ≡ true

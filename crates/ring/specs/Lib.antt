@@ -7,6 +7,6 @@ pub mod Calls
 pub mod Demands
 -- What only the contracts of inner functions cite
 pub mod Behind
-pub mod Facings
+pub mod Letters
 pub mod OnStrand
 pub mod Strands

@@ -3,7 +3,7 @@
 use mathlib.Core.Bool.{cond}
 use Prim.Native.Nat.{ℕ, _-_}
 use lib.Dec.{eqb}
-use Rattle.words.specs.keys.Kind.{facing}
+use Rattle.words.specs.keys.Facing.{facing}
 
 -- where letter i of a strand stands in a ring of n letters
 abbrev pub placeOn : ℕ → ℕ → ℕ → ℕ

@@ -1,9 +1,10 @@
 // The opposite letter, by a table of every byte.
 ghost use mathlib.Core.Path.{_≡_};
-ghost use Rattle.words.specs.keys.Kind as facings;
-ghost use Rattle.ring.specs.Facings.{facingTable};
+ghost use Rattle.words.specs.keys.Facing as facings;
+ghost use Rattle.words.specs.keys.Facing.{facingTable};
 
-// The letter opposite to each byte: A and T exchanged, C and G exchanged, every other byte itself.
+// The letter opposite to each byte: A and T exchanged, C and G, R and Y, K and M, B and V, D and H; S, W, N and every byte that is no letter
+// itself.
 const FACING: [u8; 256] = [
     0,
     1,
@@ -71,30 +72,30 @@ const FACING: [u8; 256] = [
     63,
     64,
     84,
-    66,
+    86,
     71,
-    68,
+    72,
     69,
     70,
     67,
-    72,
+    68,
     73,
     74,
-    75,
-    76,
     77,
+    76,
+    75,
     78,
     79,
     80,
     81,
-    82,
+    89,
     83,
     65,
     85,
-    86,
+    66,
     87,
     88,
-    89,
+    82,
     90,
     91,
     92,

@@ -9,7 +9,7 @@ ghost use Rattle.words.specs.order.Least.{better};
 ghost use Rattle.words.specs.rings.Ring.{start, reading};
 ghost use Rattle.words.specs.keys.Strand.{onStrand};
 ghost use Rattle.ring.specs.Judging.{most, over};
-ghost use Rattle.ring.specs.Facings.{facingTable};
+ghost use Rattle.words.specs.keys.Facing.{facingTable};
 ghost use Rattle.ring.specs.Behind.{behindOf};
 ghost use Rattle.ring.specs.Answers.{factoredOf, factoredTable};
 use super::answer::Factored;

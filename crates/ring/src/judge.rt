@@ -5,6 +5,7 @@ ghost use Rattle.ring.specs.Answers.{checkedAs, checkedOf};
 use super::answer::Checked;
 use super::kind::is_known;
 use super::kind::is_letter;
+use super::kind::letter_table;
 
 // The most letters that a ring has.
 pub const MOST: usize = 8192;
@@ -54,10 +55,11 @@ pub fn place_of(v: Verdict) -> usize
 fn first_bad(ring: &[u8], kind: u8) -> usize
     ensures { λ r. ⌜ r ≡ firstBad kind (now (ring .entry)) ⌝ }
 {
+    let letters = letter_table();
     let n = ring.len();
     let mut i = 0;
     while i < n {
-        if !is_letter(kind, ring[i]) {
+        if !is_letter(&letters, kind, ring[i]) {
             return i;
         }
         i += 1;

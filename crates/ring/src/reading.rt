@@ -7,7 +7,7 @@ ghost use Rattle.words.specs.duels.Paired.{Met};
 ghost use Rattle.words.specs.order.Least.{better};
 ghost use Rattle.words.specs.order.Order.{before};
 ghost use Rattle.words.specs.keys.Strand.{onStrand};
-ghost use Rattle.ring.specs.Facings.{facingTable};
+ghost use Rattle.words.specs.keys.Facing.{facingTable};
 ghost use Rattle.ring.specs.Judging.{over};
 ghost use Rattle.ring.specs.Answers.{equal};
 use super::facing::facing_table;

@@ -8,7 +8,7 @@ ghost use Rattle.words.specs.rings.Ring.{start};
 ghost use Rattle.words.specs.factors.Factor.{FirstRun};
 ghost use Rattle.words.specs.duels.Paired.{Paired};
 ghost use Rattle.words.specs.repeats.Repeat as defined;
-ghost use Rattle.ring.specs.Facings.{facingTable};
+ghost use Rattle.words.specs.keys.Facing.{facingTable};
 ghost use Rattle.ring.specs.Answers.{repeatedOf};
 use super::answer::Repeated;
 use super::facing::facing_table;

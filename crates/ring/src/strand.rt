@@ -3,7 +3,7 @@ ghost use mathlib.Core.Path.{_≡_};
 ghost use Prim.Native.Nat.{_<_, _≤_};
 ghost use lib.ListN.{length, take, drop, getD};
 ghost use Rattle.words.specs.keys.Strand.{onStrand};
-ghost use Rattle.ring.specs.Facings.{facingTable};
+ghost use Rattle.words.specs.keys.Facing.{facingTable};
 ghost use Rattle.ring.specs.OnStrand.{placeOn, shownOn};
 ghost use Rattle.ring.specs.Judging.{over};
 use super::facing::look_up;

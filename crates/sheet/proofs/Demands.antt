@@ -4,15 +4,15 @@
 use mathlib.Core.Path.{_≡_, refl, sym, ap, _∙_, subst}
 use mathlib.Core.List.{List, [], _∷_, _++_}
 use Prim.Native.Nat.{ℕ, _≤_, _<_, _+_}
-use lib.ListN.{length, take}
+use lib.ListN.{length, take, set}
 use Rattle.ring.specs.declared.answer.Checked.{Checked}
 use Rattle.ring.specs.declared.answer.Marked.{Marked}
-use Rattle.ring.specs.Judging.{Permitted, Given}
-use Rattle.ring.specs.Demands.{AsRuled, lent}
+use Rattle.ring.specs.Judging.{Permitted, Given, numberOf}
+use Rattle.ring.specs.Demands.{AsRuled, lent, OverBases}
 use Rattle.sheet.specs.declared.answer.Entry.{Entry}
 use Rattle.sheet.specs.declared.answer.Walked.{Walked}
-use Rattle.sheet.specs.Sheet.{trailerSize, sheetOf}
-use Rattle.sheet.specs.Trailer.{wayBack}
+use Rattle.sheet.specs.Sheet.{trailerSize, sheetOf, writeVerdict}
+use Rattle.sheet.specs.Trailer.{wayBack, kindAt}
 use Rattle.sheet.specs.Reader.{entryOf}
 use Rattle.sheet.specs.Book.{joined, walkOf, walkedAs}
 use Rattle.sheet.specs.Calls.{WriteCall, ReadCall, LettersCall, OriginalCall, WalkCall}
@@ -21,6 +21,7 @@ use Rattle.sheet.proofs.Ruled.{written-ruled, entry-ruled, entry-number
 use Rattle.sheet.proofs.Rounds.{write-leaves, round-entry, there-and-back, accepted-for}
 use Rattle.sheet.proofs.Accepted.{taken-ends}
 use Rattle.sheet.proofs.Books as books
+use Rattle.sheet.proofs.EitherKind.{answers-either, refused-either, written-either}
 
 -- ==== 1. Every call takes every input; it declines by 01's number, in 01's order, exactly on the stated condition, and a call that
 -- declines has changed nothing
@@ -79,3 +80,14 @@ accepted {b} {r} c z =
     let s = taken-ends b (c .bytes) (sym (entry-number b) ∙ ap (λ (x : Entry). x .marked .number) (sym (c .answer)) ∙ z) in
     let e = c .answer ∙ ap entryOf (sym (s .are)) ∙ round-entry (s .front) (s .kind) (s .deposit) (s .permitted) in
     subst (λ b. Accepted b r) (s .are) (subst (Accepted (s .front ++ sheetOf (s .kind) (s .deposit))) (sym e) (accepted-for (s .kind) (s .deposit) (s .permitted) (s .front)))
+
+-- ==== 3. The sheets of a ring over A, C, G, T, written as kind 1 and as kind 2, differ in the byte that holds the kind alone (02, request 3)
+
+pub write-either : {w room one two : List ℕ} {q r : Marked} → OverBases w → WriteCall w 1 room q one → WriteCall w 2 room r two
+    → (r ≡ q) × ((q .number ≡ 0 → ⊥) → two ≡ one) × (q .number ≡ 0 → two ≡ set one (length w + kindAt) 2)
+write-either {w} {room} {one} {two} {q} o c d =
+    let said : q .number ≡ numberOf (writeVerdict 1 w (length room)) = ap (λ (m : Marked). m .number) (c .answer) in (
+      d .answer ∙ answers-either w o room ∙ sym (c .answer),
+      (λ n. d .leaves ∙ refused-either w o room (λ z. n (said ∙ z)) ∙ sym (c .leaves)),
+      (λ z. d .leaves ∙ written-either w o room (sym said ∙ z) ∙ ap (λ x. set x (length w + kindAt) 2) (sym (c .leaves))),
+    )

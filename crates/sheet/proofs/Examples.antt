@@ -4,6 +4,7 @@ use mathlib.Core.Path.{_≡_, refl}
 use mathlib.Core.List.{List, [], _∷_, _++_}
 use Prim.Native.Nat.{ℕ}
 use Rattle.words.specs.keys.Kind.{stranded}
+use Rattle.words.specs.keys.Facing.{facingTable, facing}
 use Rattle.words.specs.rings.Ring.{reading, start, lowest}
 use Rattle.words.specs.keys.Strand.{opposite, strand, keyStart, key}
 use Rattle.ring.specs.Judging.{verdict}
@@ -36,15 +37,15 @@ abbrev gattacaSheet : List ℕ
 gattacaSheet = A ∷ A ∷ T ∷ C ∷ T ∷ G ∷ T ∷ 0x07 ∷ 0x00 ∷ 0x03 ∷ 0x00 ∷ 0x01 ∷ 0x01 ∷ 0x52 ∷ 0x47 ∷ []
 
 pub gattaca-written : sheetOf 1 gattaca ≡ gattacaSheet
-unfolding sheetOf key keyStart strand stranded lowest start reading opposite
+unfolding sheetOf key keyStart strand stranded lowest start reading facingTable facing opposite
 gattaca-written = refl
 
 pub gattaca-found : foundOf (N ∷ N ∷ gattacaSheet) ≡ Sheet (doneWith 7 3 1) 1 2
-unfolding foundOf wrongMarks stranded isKey deposit verdict key keyStart strand lowest start reading opposite
+unfolding foundOf wrongMarks stranded isKey deposit verdict key keyStart strand lowest start reading facingTable facing opposite
 gattaca-found = refl
 
 pub gattaca-back : depositOf (contentsIn (N ∷ N ∷ gattacaSheet)) ≡ gattaca
-unfolding deposit reading opposite
+unfolding deposit reading facingTable facing opposite
 gattaca-back = refl
 
 -- a sheet of four letters, start s, a strand and a kind
@@ -56,20 +57,20 @@ acac = A ∷ C ∷ A ∷ C ∷ []
 
 -- "For ACAC a sheet with start 1 is taken (its deposit is CACA); with start 2 it gives 7" (01)
 pub acac-one : foundOf (four acac 1 0 1) ≡ Sheet (doneWith 4 1 0) 1 0
-unfolding foundOf wrongMarks stranded isKey deposit verdict key keyStart strand lowest start reading opposite
+unfolding foundOf wrongMarks stranded isKey deposit verdict key keyStart strand lowest start reading facingTable facing opposite
 acac-one = refl
 
 pub acac-one-back : depositOf (contentsIn (four acac 1 0 1)) ≡ C ∷ A ∷ C ∷ A ∷ []
-unfolding deposit reading opposite
+unfolding deposit reading facingTable facing opposite
 acac-one-back = refl
 
 pub acac-two : foundOf (four acac 2 0 1) ≡ Refused 7 0
-unfolding foundOf wrongMarks stranded isKey deposit verdict key keyStart strand lowest start reading opposite
+unfolding foundOf wrongMarks stranded isKey deposit verdict key keyStart strand lowest start reading facingTable facing opposite
 acac-two = refl
 
 -- "ACGT with strand 1 gives 7" (01)
 pub acgt-other : foundOf (four (A ∷ C ∷ G ∷ T ∷ []) 0 1 1) ≡ Refused 7 0
-unfolding foundOf wrongMarks stranded isKey deposit verdict key keyStart strand lowest start reading opposite
+unfolding foundOf wrongMarks stranded isKey deposit verdict key keyStart strand lowest start reading facingTable facing opposite
 acgt-other = refl
 
 -- kind 0 with strand 1 gives 6, and a letter that is none gives 3 with its place from the sheet's first letter (01)
@@ -92,9 +93,9 @@ out-of-reach = refl
 
 -- two sheets walked, and a byte in front of a sheet
 pub two-walked : walkOf (gattacaSheet ++ four acac 1 0 1) ≡ through (gattacaSheet ∷ four acac 1 0 1 ∷ [])
-unfolding walkOf foundOf wrongMarks stranded isKey deposit verdict key keyStart strand lowest start reading opposite
+unfolding walkOf foundOf wrongMarks stranded isKey deposit verdict key keyStart strand lowest start reading facingTable facing opposite
 two-walked = refl
 
 pub byte-in-front : walkedOf (N ∷ gattacaSheet) ≡ record { number = 5; place = 0; sheets = 0 }
-unfolding walkOf foundOf wrongMarks stranded isKey deposit verdict key keyStart strand lowest start reading opposite
+unfolding walkOf foundOf wrongMarks stranded isKey deposit verdict key keyStart strand lowest start reading facingTable facing opposite
 byte-in-front = refl

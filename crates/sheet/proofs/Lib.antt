@@ -15,3 +15,4 @@ pub mod Accepted
 pub mod Books
 pub mod Walking
 pub mod Ruled
+pub mod EitherKind

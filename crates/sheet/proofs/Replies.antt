@@ -11,7 +11,7 @@ use lib.Dec.{ltb, leb, eqb}
 use lib.ListN.{length, take, drop, getD, length-take, length-drop}
 use lib.Seq.{take-all, drop-drop, getD-drop}
 use Rattle.words.specs.keys.Kind.{known, stranded, strands}
-use Rattle.words.proofs.keys.Kind.{no-strand}
+use Rattle.words.proofs.keys.Kind.{no-strand, only-feature}
 use Rattle.words.proofs.order.Search.{by-test, either}
 use Rattle.ring.specs.Rule.{Rule, judged}
 use Rattle.ring.specs.Judging.{most}
@@ -48,13 +48,12 @@ module _ (t : List ℕ) where
   wrong-test (strand-above l) = simp (lt-ltb 1 (getD t strandAt 0) l, any-true)
   wrong-test (feature-strand k s) = simp (k, s, any-true)
 
-  -- behind a known kind, strand 1 of a kind without strands is strand 1 of kind 0
+  -- behind a known kind, strand 1 of a kind without an opposite strand is strand 1 of kind 0
   test-strand : known (getD t kindAt 0) ≡ true → (eqb (getD t strandAt 0) 1 && not (stranded (getD t kindAt 0))) ≡ true → Wrong t
-  unfolding stranded
   test-strand k e =
       by-test (eqb (getD t strandAt 0) 1)
-      (λ s. by-test (eqb (getD t kindAt 0) 1) (λ o. absurd (true≢false (sym (simp (s, o) at e))))
-      (λ o. feature-strand (omega (arith, leb-true (getD t kindAt 0) 1 k, eqb-false (getD t kindAt 0) 1 o)) (eqb-true _ _ s)))
+      (λ s. by-test (stranded (getD t kindAt 0)) (λ o. absurd (true≢false (sym (simp (s, o) at e))))
+      (λ o. feature-strand (only-feature (getD t kindAt 0) k o) (eqb-true _ _ s)))
       (λ s. absurd (true≢false (sym (simp s at e))))
 
   pub test-wrong : wrongMarks t ≡ true → Wrong t

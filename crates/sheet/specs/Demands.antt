@@ -18,7 +18,8 @@ use Rattle.sheet.specs.Calls.{WriteCall, OriginalCall}
 
 -- ---- demand 1: 01's table for a sheet, "Order for a sheet: 5 for fewer than 8 bytes, 6, 1, 2, 5 for the way back, 3, 7"
 
--- 6 in a sheet: "kind is not 0 or 1; in a sheet also a wrong tag, a strand above 1, or kind 0 with strand 1" (01), of a trailer
+-- 6 in a sheet, of its trailer: "6 means a kind above 2, and the rest of 6 as before" (02, request 3): "in a sheet also a wrong tag, a strand
+-- above 1, or kind 0 with strand 1" (01)
 pub data Wrong (t : List ℕ) : Type 0 where
   tag-first : (getD t tagAt 0 ≡ tagFirst → ⊥) → Wrong t
   tag-last : (getD t (tagAt + 1) 0 ≡ tagLast → ⊥) → Wrong t

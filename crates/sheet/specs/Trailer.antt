@@ -52,7 +52,8 @@ contentsIn b = record {
   kind = getD (trailer b) kindAt 0;
 }
 
--- "kind is not 0 or 1; in a sheet also a wrong tag, a strand above 1, or kind 0 with strand 1" (01): strand 1 of a kind without an opposite strand
+-- "6 means a kind above 2, and the rest of 6 as before" (02, request 3): "in a sheet also a wrong tag, a strand above 1, or kind 0 with
+-- strand 1" (01), the kind without an opposite strand
 abbrev pub wrongAs : ℕ → ℕ → ℕ → ℕ → Bool
 wrongAs a b kind strand = not (eqb a tagFirst) || not (eqb b tagLast) || not (known kind) || ltb 1 strand || eqb strand 1 && not (stranded kind)
 

@@ -6,14 +6,16 @@ use Rattle.words.specs.rings.Ring.{reading, around, start, lowest}
 use Rattle.words.specs.keys.Strand.{opposite, strand, keyStart, key}
 use Rattle.words.specs.factors.Factor.{longest, factors, factorTable}
 use Rattle.words.specs.suffixes.Prefix.{leastSuffix, suffixTable, startTable}
+use Rattle.words.specs.keys.Letter.{A, C, G, T}
 use Rattle.words.specs.keys.Kind.{stranded}
+use Rattle.words.specs.keys.Facing.{facingTable, facing}
 use Rattle.words.specs.repeats.Repeat.{repeat}
 use Rattle.words.specs.duels.Duel.{duels, pairs, meet, forward, lower, upper}
-use Rattle.words.specs.Table.{answered, rows, A, C, G, T}
+use Rattle.words.specs.Table.{answered, rows}
 
 -- the definitions give each row of the table
 pub table : map (λ r. answered (r .ring)) rows ≡ rows
-unfolding reading around start lowest stranded opposite strand keyStart key longest factors factorTable duels meet forward lower upper
+unfolding reading around start lowest stranded facingTable facing opposite strand keyStart key longest factors factorTable duels meet forward lower upper
 table = refl
 
 -- what 01 says besides of GATTACA, and 02 of the repeats of ACGAC and ACAC and of the pairs of AA

@@ -7,7 +7,7 @@ pub mod rings
 pub mod factors
 -- The repeat of a ring; how far letters match the front of a word
 pub mod repeats
--- Kinds, the opposite strand, the key; rings that are one molecule
+-- Letters, kinds, the opposite letter and strand, the key; rings that are one molecule
 pub mod keys
 -- The least suffix, the two prefix tables, and how the suffix table is filled
 pub mod suffixes

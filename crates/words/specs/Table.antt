@@ -3,6 +3,7 @@
 use mathlib.Core.List.{List, [], _∷_}
 use Prim.Native.Nat.{ℕ}
 use Rattle.words.specs.rings.Ring.{start}
+use Rattle.words.specs.keys.Letter.{A, C, G, T}
 use Rattle.words.specs.keys.Strand.{strand, keyStart, key}
 use Rattle.words.specs.factors.Factor.{factorTable}
 use Rattle.words.specs.duels.Duel.{duels, Duels, ended}
@@ -20,18 +21,6 @@ pub record Row : Type 0 where
 abbrev pub answered : List ℕ → Row
 answered w =
     record { ring = w; factors = factorTable w; start = start w; duels = duels w; strand = strand 1 w; keyStart = keyStart 1 w; key = key 1 w }
-
-abbrev pub A : ℕ
-A = 65
-
-abbrev pub C : ℕ
-C = 67
-
-abbrev pub G : ℕ
-G = 71
-
-abbrev pub T : ℕ
-T = 84
 
 abbrev pub row : List ℕ → List ℕ → ℕ → ℕ → ℕ → ℕ → List ℕ → Row
 row w fs s c st ks k = record { ring = w; factors = fs; start = s; duels = ended s c; strand = st; keyStart = ks; key = k }

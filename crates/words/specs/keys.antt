@@ -1,3 +1,5 @@
--- Kinds, the opposite strand, the key; rings that are one molecule
+-- Letters, kinds, the opposite letter and strand, the key; rings that are one molecule
+pub mod Letter
 pub mod Kind
+pub mod Facing
 pub mod Strand

@@ -1,13 +1,14 @@
--- Which strands a kind has.
+-- Which strands a kind has, and which letters.
 -- Assumes nothing.
-use mathlib.Core.Path.{_≡_}
+use mathlib.Core.Path.{_≡_, refl}
 use mathlib.Core.Bool.{Bool, true, false, not, _||_, _&&_}
 use Prim.Native.Nat.{ℕ}
 use native.Mathlib.Omega.{arith}
-use borrow.Author.Tests.{lt-ltb, le-ltb, le-leb, lt-leb, eq-eqb, ne-eqb}
+use borrow.Author.Tests.{lt-ltb, le-ltb, le-leb, lt-leb, eq-eqb, ne-eqb, leb-true, eqb-false}
 use lib.Dec.{ltb, leb, eqb}
+use Rattle.words.specs.keys.Letter.{A, C, G, isBase, isIupac}
 use Rattle.words.specs.keys.Kind.{known, stranded, strands}
-use Rattle.words.proofs.order.Search.{by-test, either, lt-or-ge}
+use Rattle.words.proofs.order.Search.{by-test, either, lt-or-ge, neither}
 
 and-false : (t : Bool) → (t && false) ≡ false
 and-false t = by-test t (λ e. rw e) (λ e. rw e)
@@ -44,3 +45,18 @@ strands-both kind h t = rw (h, t)
 pub strands-own : (kind : ℕ) → known kind ≡ true → stranded kind ≡ false → strands kind ≡ 1
 unfolding strands
 strands-own kind h t = rw (h, t)
+
+-- a kind without an opposite strand is that of feature rings
+pub only-feature : (kind : ℕ) → known kind ≡ true → stranded kind ≡ false → kind ≡ 0
+unfolding stranded
+only-feature kind k e =
+    let n = neither (eqb kind 1) (eqb kind 2) e in
+    omega (arith, leb-true kind 2 k, eqb-false kind 1 (n .0), eqb-false kind 2 (n .1))
+
+-- a letter of a base ring is one of the fifteen
+pub base-iupac : (a : ℕ) → isBase a ≡ true → isIupac a ≡ true
+unfolding isIupac
+base-iupac a =
+    by-test (eqb a A) (λ x. rw x (λ e. refl))
+    (λ x. by-test (eqb a C) (λ y. rw (x, y) (λ e. refl))
+    (λ y. by-test (eqb a G) (λ z. rw (x, y, z) (λ e. refl)) (λ z. rw (x, y, z) (λ e. rw e))))

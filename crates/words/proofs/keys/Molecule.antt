@@ -14,7 +14,7 @@ use Rattle.words.specs.order.Order.{before}
 use Rattle.words.specs.keys.Kind.{known, stranded, strands}
 use Rattle.words.specs.rings.Ring.{reading, lowest, IsReading}
 use Rattle.words.specs.repeats.Repeat.{Turns, repeat}
-use Rattle.words.specs.keys.Strand.{opposite, strand, key, OneRing}
+use Rattle.words.specs.keys.Strand.{opposite, strand, keyStart, key, OneRing}
 use Rattle.words.proofs.order.Order.{before-true, before-false, Tri, tri, less, same, more, lt-le}
 use Rattle.words.proofs.order.Search.{either, by-test}
 use Rattle.words.proofs.rings.Turn.{reading-back, lowest-reading, lowest-of-reading, reading-of-lowest}
@@ -45,6 +45,20 @@ key-plain kind w e = rw e
 pub key-lesser : (kind : ℕ) (w : List ℕ) → stranded kind ≡ true → key kind w ≡ lesser (lowest w) (lowest (opposite w))
 unfolding key strand
 key-lesser kind w e = by-test (before (lowest (opposite w)) (lowest w)) (λ t. rw (e, t)) (λ t. rw (e, t))
+
+-- kinds that both have an opposite strand, or both have none, give a ring the same key
+module _ (j k : ℕ) (e : stranded j ≡ stranded k) (w : List ℕ) where
+  pub strand-alike : strand j w ≡ strand k w
+  unfolding strand
+  strand-alike = rw e
+
+  pub start-alike : keyStart j w ≡ keyStart k w
+  unfolding keyStart
+  start-alike = rw strand-alike
+
+  pub key-alike : key j w ≡ key k w
+  unfolding key
+  key-alike = rw strand-alike
 
 -- ---- turning a ring over
 

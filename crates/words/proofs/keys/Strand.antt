@@ -1,24 +1,17 @@
--- The opposite letter and the opposite strand: each undoes itself; the opposite strand turns with the ring.
+-- The opposite strand: it undoes itself and turns with the ring.
 -- Assumes nothing.
 use mathlib.Core.Path.{_≡_, refl, sym, ap, _∙_}
 use mathlib.Core.List.{List, [], _∷_, _++_, map, reverse, reverseAux, reverse-cons, reverse-reverse, reverse-append, map-append}
 use Prim.Native.Nat.{ℕ, suc, _<_, _-_}
 use native.Mathlib.Omega.{arith}
 use lib.Dec.{eqb}
-use borrow.Author.Tests.{eqb-true}
 use lib.ListN.{length, take, drop, getD, length-drop, length-map, length-reverse, take-append-drop, List·getD-append, List·getD-map}
 use lib.Seq.{take-at, drop-at, getD-at}
-use Rattle.words.specs.keys.Kind.{facing}
+use Rattle.words.specs.keys.Facing.{facing}
 use Rattle.words.specs.rings.Ring.{reading}
 use Rattle.words.specs.keys.Strand.{opposite, onStrand}
 use Rattle.words.proofs.order.Search.{by-test, either, lt-or-ge}
-
-pub facing-twice : (a : ℕ) → facing (facing a) ≡ a
-facing-twice a =
-    by-test (eqb a 65) (λ e. rw (eqb-true a 65 e))
-    (λ e. by-test (eqb a 84) (λ f. rw (eqb-true a 84 f))
-    (λ f. by-test (eqb a 67) (λ g. rw (eqb-true a 67 g))
-    (λ g. by-test (eqb a 71) (λ h. rw (eqb-true a 71 h)) (λ h. simp (e, f, g, h)))))
+use Rattle.words.proofs.keys.Facing.{facing-twice, facing-zero}
 
 map-twice : (w : List ℕ) → map facing (map facing w) ≡ w
 map-twice [] = refl
@@ -75,4 +68,5 @@ reverse-at (x ∷ l) i h =
 pub opposite-at : (w : List ℕ) (i : ℕ) → i < length w → getD (opposite w) i 0 ≡ facing (getD w (length w - 1 - i) 0)
 unfolding opposite
 opposite-at w i h =
-    reverse-at (map facing w) i (rw length-map h) ∙ ap (λ n. getD (map facing w) (n - 1 - i) 0) (length-map w facing) ∙ List·getD-map facing w (length w - 1 - i) 0
+    reverse-at (map facing w) i (rw length-map h) ∙ ap (λ n. getD (map facing w) (n - 1 - i) 0) (length-map w facing)
+    ∙ ap (getD (map facing w) (length w - 1 - i)) (sym facing-zero) ∙ List·getD-map facing w (length w - 1 - i) 0

@@ -105,9 +105,13 @@ pub length-tabled : (f : ℕ → ℕ) (n : ℕ) → length (tabled f n) ≡ n
 length-tabled f zero = refl
 length-tabled f (suc n) = rw (length-append, length-tabled f n) (omega arith)
 
+-- an entry, whatever stands for one that is not there
+pub tabled-any : (f : ℕ → ℕ) (n i d : ℕ) → i < n → getD (tabled f n) i d ≡ f i
+tabled-any f zero i d h = absurd (omega arith)
+tabled-any f (suc n) i d h =
+    up-to (λ i. getD (tabled f (suc n)) i d ≡ f i) n
+    (λ j l. rw (List·getD-append (tabled f n) (f n ∷ []) d j (rw (length-tabled f n) l)) (tabled-any f n j d l))
+    (getD-at (tabled f n) (f n) [] d n (length-tabled f n)) i h
+
 pub tabled-at : (f : ℕ → ℕ) (n i : ℕ) → i < n → getD (tabled f n) i 0 ≡ f i
-tabled-at f zero i h = absurd (omega arith)
-tabled-at f (suc n) i h =
-    up-to (λ i. getD (tabled f (suc n)) i 0 ≡ f i) n
-    (λ j l. rw (List·getD-append (tabled f n) (f n ∷ []) 0 j (rw (length-tabled f n) l)) (tabled-at f n j l))
-    (getD-at (tabled f n) (f n) [] 0 n (length-tabled f n)) i h
+tabled-at f n i h = tabled-any f n i 0 h

@@ -7,7 +7,8 @@ use mathlib.Core.List.{List, map, reverse}
 use Prim.Native.Nat.{ℕ}
 use lib.Dec.{eqb}
 use Rattle.words.specs.order.Order.{before}
-use Rattle.words.specs.keys.Kind.{stranded, facing}
+use Rattle.words.specs.keys.Kind.{stranded}
+use Rattle.words.specs.keys.Facing.{facing}
 use Rattle.words.specs.rings.Ring.{start, lowest, IsReading}
 
 -- the opposite strand: the letters in backward order, each exchanged (01)

@@ -1,7 +1,7 @@
 -- `ring::facing::facing_table` meets its contract, by computation.
 -- Assumes nothing.
 use mathlib.Core.Path.{refl}
-use Rattle.ring.specs.Facings.{facingTable}
+use Rattle.words.specs.keys.Facing.{facingTable}
 use Rattle.ring.proofs.facing.facing_table.Statement.{statement}
 use Rattle.ring.proofs.facing.facing_table.Tie as tie
 

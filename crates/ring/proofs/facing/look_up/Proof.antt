@@ -1,7 +1,7 @@
 -- `ring::facing::look_up` meets its contract.
 -- Assumes nothing.
 use borrow.Author.Needs.{needs}
-use Rattle.ring.proofs.Facings.{facing-at}
+use Rattle.words.proofs.keys.Facing.{facing-at}
 use Rattle.ring.proofs.facing.look_up.Statement.{statement}
 use Rattle.ring.proofs.facing.look_up.Tie as tie
 

@@ -10,10 +10,13 @@ use Rattle.ring.proofs.judge.first_bad.Statement.{statement}
 use Rattle.ring.proofs.judge.first_bad.Tie as tie
 
 abbrev Inv-loop : tie.InvT-loop
-Inv-loop w kind n i₀ i = (n ≡ length w) × Passed kind w i
+Inv-loop w kind letters n i₀ i = (n ≡ length w) × Passed kind w i
 
 abbrev μ-loop : tie.MeasureT-loop
-μ-loop w kind n i₀ i = length w - i
+μ-loop w kind letters n i₀ i = length w - i
+
+letter-table-requires : tie.Need-letter-table-requires Inv-loop μ-loop
+letter-table-requires c κs = search needs
 
 loop-holds : tie.Need-loop-holds Inv-loop μ-loop
 loop-holds c = (search needs, passed-none _ _)
@@ -49,6 +52,7 @@ first-bad-spec =
     (tie.spec
     Inv-loop
     μ-loop
+    letter-table-requires
     loop-holds
     shared-slice-read-is-letter
     is-letter-requires

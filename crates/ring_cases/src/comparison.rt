@@ -38,8 +38,10 @@ pub fn refusals() {
     against(b"NAN", 1);
     against(b"ACG", 0);
     against(b"", 0);
-    against(b"ACG", 2);
-    against(b"", 2);
+    against(b"ACN", 2);
+    against(b"ACn", 2);
+    against(b"ACG", 3);
+    against(b"", 3);
 }
 
 // The long rings as the first.
@@ -48,5 +50,5 @@ pub fn long() {
     against(&ring, 1);
     against(&ring[..8192], 1);
     against(&ring, 0);
-    against(&ring, 2);
+    against(&ring, 3);
 }

@@ -65,6 +65,19 @@ fn more_bases() {
     judged(b"AAN", 1, 0, 0);
 }
 
+// Rings of kind 2: keys on both strands, a tie, a reading that is no key, and a byte that is no letter.
+pub fn uncertain() {
+    judged(b"AKN", 2, 2, 0);
+    judged(b"AKN", 2, 1, 1);
+    judged(b"ANNT", 2, 0, 0);
+    judged(b"ANNT", 2, 0, 1);
+    judged(b"NAK", 2, 0, 0);
+    judged(b"AKn", 2, 0, 0);
+    deposited(b"AKN", 2, 2, 0, 3);
+    deposited(b"AKN", 2, 1, 1, 4);
+    deposited(b"AKN", 2, 1, 1, 2);
+}
+
 // Feature rings, and what is no ring.
 pub fn features() {
     judged(b"ACAGATT", 0, 4, 0);
@@ -76,7 +89,7 @@ pub fn features() {
     judged(b"A", 0, 18446744073709551615, 0);
     judged(b"", 0, 0, 0);
     judged(b"", 1, 0, 0);
-    judged(b"A", 2, 0, 0);
+    judged(b"A", 3, 0, 0);
 }
 
 // 8,192 letters A at the starts 0 and 1, and 8,193.
@@ -135,7 +148,7 @@ pub fn refusals() {
 fn first_refusals() {
     deposited(b"", 1, 0, 0, 0);
     deposited(b"", 0, 5, 2, 3);
-    deposited(b"ACG", 2, 0, 0, 3);
-    deposited(b"AAN", 2, 9, 2, 0);
+    deposited(b"ACG", 3, 0, 0, 3);
+    deposited(b"AAN", 3, 9, 2, 0);
     deposited(b"", 255, 0, 0, 0);
 }

@@ -25,7 +25,7 @@ pub fn short() {
 
 // A kind that is none, and letters that are none.
 fn wrong() {
-    brief(b"ACG", 2, 3);
+    brief(b"ACG", 3, 3);
     brief(b"ACG", 255, 3);
     brief(b"NCG", 1, 3);
     brief(b"ACN", 1, 3);
@@ -35,10 +35,10 @@ fn wrong() {
 
 // Two refusals at once on short rings.
 pub fn both() {
-    brief(b"", 2, 0);
-    brief(b"ACN", 2, 3);
-    brief(b"ACG", 2, 2);
-    brief(b"ACN", 2, 0);
+    brief(b"", 3, 0);
+    brief(b"ACN", 3, 3);
+    brief(b"ACG", 3, 2);
+    brief(b"ACN", 3, 0);
     brief(b"ACN", 1, 2);
     brief(b"ACN", 1, 0);
 }
@@ -69,7 +69,7 @@ pub fn beyond() {
     brief(&ring, 1, 8193);
     brief(&ring, 0, 8193);
     brief(&ring, 1, 0);
-    brief(&ring, 2, 8193);
+    brief(&ring, 3, 8193);
     ring[0] = b'N';
     brief(&ring, 1, 8193);
 }

@@ -59,6 +59,7 @@ pub fn done() {
     rooms(b"T", 1);
     rooms(b"T", 0);
     rooms(b"\xff\x80\x7f\n\x00", 0);
+    rooms(b"GAN", 2);
 }
 
 // No letters, a letter that is none, and a kind that is none, alone and together.
@@ -68,8 +69,8 @@ pub fn refusals() {
     rooms(b"GAN", 1);
     rooms(b"NAG", 1);
     rooms(b"GAN", 0);
-    rooms(b"GAT", 2);
+    rooms(b"GAT", 3);
     rooms(b"GAT", 255);
-    rooms(b"GAN", 2);
-    rooms(b"", 2);
+    rooms(b"GAN", 3);
+    rooms(b"", 3);
 }

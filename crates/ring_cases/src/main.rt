@@ -5,6 +5,7 @@ mod comparison;
 mod deposits;
 mod edges;
 mod examples;
+mod iupac;
 mod keys;
 mod letters;
 mod repeats;
@@ -23,6 +24,7 @@ fn main() {
     edges::full_last();
     edges::beyond();
     edges::alphabet(1);
+    edges::alphabet(2);
     edges::rooms();
     edges::key_rooms();
     comparison::refusals();
@@ -35,4 +37,9 @@ fn main() {
     deposits::deposits();
     deposits::refusals();
     edges::refused();
+    iupac::rings();
+    iupac::pairs();
+    iupac::edges();
+    iupac::key_rooms();
+    deposits::uncertain();
 }

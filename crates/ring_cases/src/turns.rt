@@ -1,12 +1,20 @@
 // A ring turned by one letter, and its opposite strand.
 
-// The letter that faces a letter of a base ring; any other byte faces itself.
+// The letter that faces a letter; S, W, N and a byte that is no letter face themselves.
 fn facing(b: u8) -> u8 {
     match b {
         b'A' => b'T',
         b'C' => b'G',
         b'G' => b'C',
         b'T' => b'A',
+        b'R' => b'Y',
+        b'Y' => b'R',
+        b'K' => b'M',
+        b'M' => b'K',
+        b'B' => b'V',
+        b'V' => b'B',
+        b'D' => b'H',
+        b'H' => b'D',
         _ => b,
     }
 }

@@ -50,6 +50,19 @@ pub fn three() {
     damage::cut(&mut book, c);
 }
 
+// Three sheets of the three kinds: the walk after each of them.
+pub fn kinds() {
+    let mut book = [0u8; 64];
+    let a = put(&mut book, 0, b"GAN", 2);
+    let b = put(&mut book, a, b"GAN", 0);
+    let c = put(&mut book, b, b"GAC", 1);
+    text(b"BOOK of kinds 2, 0 and 1, of one, two and all sheets :");
+    walk(&book, a);
+    walk(&book, b);
+    walk(&book, c);
+    line();
+}
+
 // A book with bytes left over in front of two sheets.
 fn left_over(front: usize) {
     if 20 < front {

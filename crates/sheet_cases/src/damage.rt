@@ -166,4 +166,5 @@ pub fn sheets() {
     sheet_of(b"GATTACA", 1);
     sheet_of(b"CACA", 1);
     sheet_of(b"BAB", 0);
+    sheet_of(b"GAN", 2);
 }

@@ -10,9 +10,11 @@ fn main() {
     sheets::edges();
     sheets::marks();
     sheets::ways();
+    sheets::uncertain();
     damage::sheets();
     books::three();
     books::left_overs();
+    books::kinds();
     reports::short();
     reports::full();
     reports::small_room();

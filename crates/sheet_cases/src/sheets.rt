@@ -77,6 +77,22 @@ pub fn deposits() {
     tagged();
 }
 
+// Of kind 2, on both strands and on a tie; a ring over A, C, G, T; sheets with a strand, a letter and a start that are wrong.
+pub fn uncertain() {
+    deposited(b"GAN", 2);
+    deposited(b"MTN", 2);
+    deposited(b"YR", 2);
+    deposited(b"GATTACA", 2);
+    written(b"GAn", 2, 11);
+    written(b"GAN", 2, 10);
+    given(b"AKN\x03\x00\x01\x00\x01\x02RG", 3);
+    given(b"AKN\x03\x00\x01\x00\x02\x02RG", 3);
+    given(b"AKn\x03\x00\x01\x00\x01\x02RG", 3);
+    given(b"AKN\x03\x00\x01\x00\x01\x01RG", 3);
+    given(b"ANNT\x04\x00\x00\x00\x01\x02RG", 4);
+    given(b"RG\x02\x00\x00\x00\x00\x02RG", 2);
+}
+
 // Feature rings whose letters hold the tag, and a whole sheet: of A as a feature ring, and of GATTACA.
 fn tagged() {
     deposited(b"RG", 0);
@@ -93,7 +109,7 @@ pub fn rooms() {
     written(b"GATTACA", 0, 14);
     written(b"", 1, 7);
     written(b"GAN", 1, 3);
-    written(b"GAT", 2, 3);
+    written(b"GAT", 3, 3);
     text(b"ORIGINAL of GATTACA's sheet in rooms of 6, 0 and 9\n");
     original(b"AATCTGT\x07\x00\x03\x00\x01\x01RG", 6);
     original(b"AATCTGT\x07\x00\x03\x00\x01\x01RG", 0);
@@ -131,12 +147,12 @@ pub fn marks() {
     given(b"NC\x01\x00\x00\x00\x00\x01RG", 1);
     given(b"AC\x02\x00\x00\x00\x01\x00RG", 2);
     given(b"AC\x02\x00\x00\x00\x02\x01RG", 2);
-    given(b"AC\x02\x00\x00\x00\x00\x02RG", 2);
+    given(b"AC\x02\x00\x00\x00\x00\x03RG", 2);
     given(b"AC\x02\x00\x00\x00\x00\x01RF", 2);
     given(b"AC\x02\x00\x00\x00\x00\x01GR", 2);
-    given(b"AC\x00\x00\x00\x00\x00\x02RG", 2);
-    given(b"AC\x03\x00\x00\x00\x00\x02RG", 2);
-    given(b"AN\x02\x00\x00\x00\x00\x02RG", 2);
+    given(b"AC\x00\x00\x00\x00\x00\x03RG", 2);
+    given(b"AC\x03\x00\x00\x00\x00\x03RG", 2);
+    given(b"AN\x02\x00\x00\x00\x00\x03RG", 2);
     given(b"CN\x02\x00\x09\x00\x00\x01RG", 2);
 }
 

@@ -107,7 +107,8 @@ letteredOf kind w size = markedAs (verdict kind w (fewer size w)) kind w
 abbrev pub letteredRoom : ℕ → List ℕ → List ℕ → List ℕ
 letteredRoom kind w room = after (verdict kind w (fewer (length room) w)) (key kind w) room
 
--- "For kind 1 both rooms of the key count for 4, for kind 0 the first alone" (01): the rooms' sizes against the ring
+-- "For kind 1 both rooms of the key count for 4, for kind 0 the first alone" (01), and kind 2 is "lent both rooms as kind 1 is" (02): the
+-- rooms' sizes against the ring
 abbrev pub roomsShort : ℕ → ℕ → ℕ → ℕ → Bool
 roomsShort kind n first second = ltb first n || stranded kind && ltb second n
 

@@ -53,7 +53,8 @@ pub record AsRuled (Table : ℕ → ℕ → Type 0) (number place : ℕ) (others
   -- done: "what lies beyond the written entries stays unchanged" (01)
   pub beyond : number ≡ 0 → Beyond rooms
 
--- 4 for the rooms of the key: "For kind 1 both rooms of the key count for 4, for kind 0 the first alone" (01)
+-- 4 for the rooms of the key: "For kind 1 both rooms of the key count for 4, for kind 0 the first alone" (01), and kind 2 is "lent both
+-- rooms as kind 1 is" (02)
 abbrev pub LacksRoom : ℕ → List ℕ → List ℕ → List ℕ → Type 0
 LacksRoom kind w first second = (length first < length w) ⊎ ((stranded kind ≡ true) × (length second < length w))
 

@@ -1,4 +1,4 @@
--- The judging of a ring (01, "Numbers given when a call declines").
+-- The judging of a ring of any of the three kinds (01, "Numbers given when a call declines"; 02, request 3).
 -- Assumes nothing.
 use mathlib.Core.Path.{_≡_}
 use mathlib.Core.Bool.{Bool, true, false, cond, not}
@@ -15,7 +15,8 @@ use Rattle.ring.specs.Rule.{Rule, rule, judged}
 abbrev pub most : ℕ
 most = 8192
 
--- the first position whose byte is no letter of the kind, n if there is none (01, 3: "the place is the first such position")
+-- the first position whose byte is no letter of the kind, n if there is none (01, 3: "the place is the first such position"; "3 covers
+-- kind 2", 02)
 abbrev pub firstBad : ℕ → List ℕ → ℕ
 firstBad kind [] = 0
 firstBad kind (a ∷ w) = cond (isLetter kind a) (suc (firstBad kind w)) 0
@@ -65,7 +66,7 @@ unfoldable pub verdict : ℕ → List ℕ → Bool → Verdict
 verdict kind w short = judged (ringRules kind w ++ rule short Short ∷ []) Taken
 
 -- 01's table for rings: each number exactly when its condition holds and none before it in the order, and its place. `Lacks` is 4's
--- condition in the call's own terms: a needed table or room has too few entries
+-- condition in the call's own terms: a needed table or room has too few entries. "3 covers kind 2; 6 means a kind above 2" (02)
 pub data Given (kind : ℕ) (w : List ℕ) (Lacks : Type 0) : ℕ → ℕ → Type 0 where
   unknown : known kind ≡ false → Given kind w Lacks 6 0
   none : known kind ≡ true → length w ≡ 0 → Given kind w Lacks 1 0

@@ -1,4 +1,4 @@
--- The two strands of a base ring: their starts, the strand that holds the key, and the key's marks from these.
+-- The two strands of a ring whose kind has an opposite strand: their starts, the strand that holds the key, and the key's marks from these.
 -- Assumes nothing.
 use mathlib.Core.Bool.{Bool, cond, not}
 use mathlib.Core.List.{List}

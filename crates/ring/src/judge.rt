@@ -1,4 +1,4 @@
-// The judging of a ring: one verdict, in the order 6, 1, 2, 3, 4.
+// The judging of a ring of any of the three kinds: one verdict, in the order 6, 1, 2, 3, 4.
 ghost use mathlib.Core.Path.{_≡_};
 ghost use Rattle.ring.specs.Judging.{firstBad, verdict, numberOf, placeOf};
 ghost use Rattle.ring.specs.Answers.{checkedAs, checkedOf};

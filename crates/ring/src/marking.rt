@@ -16,7 +16,7 @@ use super::reading::lower;
 use super::reading::put_reading;
 use super::start::start_of;
 
-// A base ring: the start as given, the start of the opposite strand, and the strand that holds the key.
+// A ring with two strands: the start as given, the start of the opposite strand, and the strand that holds the key.
 pub struct Strands {
     pub own: usize,
     pub other: usize,

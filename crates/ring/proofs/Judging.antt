@@ -1,6 +1,6 @@
 -- The judging of a ring: what a scan of the letters keeps, and the verdict from what the tests showed.
 -- Assumes nothing.
-use mathlib.Core.Path.{_≡_, refl}
+use mathlib.Core.Path.{_≡_, refl, ap}
 use mathlib.Core.Bool.{Bool, true, false}
 use mathlib.Core.List.{List, [], _∷_}
 use Prim.Native.Nat.{ℕ, suc, _≤_, _<_, _+_}
@@ -42,6 +42,11 @@ module _ (kind : ℕ) (w : List ℕ) (i : ℕ) (p : Passed kind w i) where
   passed-all h =
       let e : firstBad kind (drop i w) ≡ 0 = rw (let z : i ≡ length w = omega (arith, p .within) in z, drop-length) in
       omega (arith, p .rest)
+
+-- a kind that takes every byte
+pub passed-every : (kind : ℕ) (w : List ℕ) → eqb kind 0 ≡ true → firstBad kind w ≡ length w
+passed-every kind [] t = refl
+passed-every kind (a ∷ w) t = rw t (ap suc (passed-every kind w t))
 
 -- ---- the verdict, rule by rule
 

@@ -6,6 +6,7 @@ use super::answer::Checked;
 use super::kind::is_known;
 use super::kind::is_letter;
 use super::kind::letter_table;
+use super::kind::takes_every_byte;
 
 // The most letters that a ring has.
 pub const MOST: usize = 8192;
@@ -55,8 +56,11 @@ pub fn place_of(v: Verdict) -> usize
 fn first_bad(ring: &[u8], kind: u8) -> usize
     ensures { λ r. ⌜ r ≡ firstBad kind (now (ring .entry)) ⌝ }
 {
-    let letters = letter_table();
     let n = ring.len();
+    if takes_every_byte(kind) {
+        return n;
+    }
+    let letters = letter_table();
     let mut i = 0;
     while i < n {
         if !is_letter(&letters, kind, ring[i]) {

@@ -1,5 +1,7 @@
 // Kinds of rings: which there are, which have an opposite strand, and what their letters are.
 ghost use mathlib.Core.Path.{_≡_};
+ghost use mathlib.Core.Bool.{false};
+ghost use lib.Dec.{eqb};
 ghost use Rattle.words.specs.keys.Kind.{known, isLetter, stranded, strands};
 ghost use Rattle.ring.specs.Letters.{letterTable};
 
@@ -42,6 +44,13 @@ pub fn strands_of(kind: u8) -> u8
     1
 }
 
+// Whether every byte is a letter of the kind.
+pub fn takes_every_byte(kind: u8) -> bool
+    ensures { λ r. ⌜ r ≡ eqb kind 0 ⌝ }
+{
+    kind == FEATURE
+}
+
 // In the table of letters: the bit of kind 1, that of kind 2, and both.
 const BASE_BIT: u8 = 1;
 
@@ -72,14 +81,11 @@ pub fn letter_table() -> [u8; 256]
     table
 }
 
-// Whether a byte is a letter of the kind, by the table of letters.
+// Whether a byte is a letter of a kind that does not take every byte, by the table of letters.
 pub fn is_letter(table: &[u8; 256], kind: u8, a: u8) -> bool
-    requires { ⌜ now table ≡ letterTable ⌝ }
+    requires { ⌜ (now table ≡ letterTable) × (eqb kind 0 ≡ false) ⌝ }
     ensures { λ r. ⌜ r ≡ isLetter kind a ⌝ }
 {
-    if kind == FEATURE {
-        return true;
-    }
     if kind == BASE {
         return table[a as usize] & BASE_BIT != 0;
     }

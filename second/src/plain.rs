@@ -223,7 +223,11 @@ pub fn repeat(ring: &[u8], table: &mut [u16]) -> usize {
     let n = ring.len();
     match_lengths(ring, table);
     let period = (1..n).find(|&p| table[p] as usize == n - p).unwrap_or(n);
-    if n % period == 0 { period } else { n }
+    if n % period == 0 {
+        period
+    } else {
+        n
+    }
 }
 
 /// The start and strand of the key of a base ring, by Booth's method on both strands.

@@ -2,6 +2,7 @@
 //! library's C functions called beside it.
 
 pub mod cases;
+pub mod codes;
 pub mod comparison;
 pub mod deposit_cases;
 pub mod deposit_comparison;

@@ -15,6 +15,7 @@ pub mod fasta_texts;
 pub mod fasta_times;
 pub mod keys;
 pub mod lent;
+pub mod letter_cases;
 pub mod long;
 pub mod long_sheets;
 pub mod part_comparison;

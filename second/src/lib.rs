@@ -1,6 +1,7 @@
 //! The second program: every answer of the library computed again, from the definitions and by other methods, and the
 //! library's C functions called beside it.
 
+pub mod alike_cases;
 pub mod cases;
 pub mod codes;
 pub mod comparison;
@@ -32,4 +33,5 @@ pub mod sheet_cases;
 pub mod sheet_comparison;
 pub mod sheets;
 pub mod timing;
+pub mod uncertain_cases;
 pub mod words;

@@ -8,12 +8,12 @@ use second::report_comparison::{processes, reports};
 use second::ring_cases::{refusals, ring, sizes};
 use second::rules::{self, BASES, FEATURES, IUPAC, UNCERTAIN};
 use second::sheet_cases::{damaged, sheet, trailers};
-use second::{facts, fasta_cases, repeat_cases, report};
+use second::{alike_cases, facts, fasta_cases, repeat_cases, report, uncertain_cases};
 use std::time::Instant;
 
 type Stage = fn(&mut Comparison, &mut Numbers);
 
-const STAGES: [(&str, Stage); 23] = [
+const STAGES: [(&str, Stage); 25] = [
     ("refusals and their collisions", |c, _| refusals(c)),
     ("every byte as a letter of a ring, a key and a sheet, every byte as a kind", every_byte),
     ("every ring over AC to 15, AT to 11, ACGT to 8, six bytes to 5", every_ring),
@@ -29,6 +29,8 @@ const STAGES: [(&str, Stage); 23] = [
     ("random rings to 300 letters of all kinds", random_rings),
     ("families to 8,192 letters, of bases, of bytes and of uncertain letters", long_rings),
     ("repeats of words over and over to 8,192 letters, turned, on the other strand, changed", repeat_cases::powers),
+    ("rings over ACGT as kinds 1 and 2 with the same answers: all to 6, some to 8,192", alike_cases::rings),
+    ("four plasmids with uncertain letters, turned, on the other strand, and refused as base rings", uncertain_cases::rings),
     ("sheets of kinds 1 and 2 to 8,192 letters with wrong letters", far_letters),
     ("sheets of all kinds to 8,192 letters with bytes and marks changed, cut, and with bytes before", long_damage),
     ("reports in rooms about 160,000 bytes", reports),

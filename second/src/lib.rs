@@ -34,4 +34,5 @@ pub mod sheet_comparison;
 pub mod sheets;
 pub mod timing;
 pub mod uncertain_cases;
+pub mod uncertain_times;
 pub mod words;

@@ -1,4 +1,5 @@
 //! Rings to compare on.
+use crate::rules::{FEATURES, UNCERTAIN};
 
 /// A small generator of numbers, the same in every run.
 pub struct Numbers(u64);
@@ -87,9 +88,25 @@ pub fn de_bruijn(alphabet: &[u8], n: usize) -> Vec<u8> {
     ring
 }
 
+/// Bytes for the letters A, C, G, T of a feature ring: in their order, against it, and mixed.
+const BYTES: [[u8; 4]; 3] = [[0, 127, 128, 255], [255, 128, 127, 0], [128, 0, 255, 127]];
+
+/// Letters for A, C, G, T of a ring with uncertain letters: in their order, against it, mixed, all facing themselves, and with bases.
+/// Those for letters that face each other face each other.
+const UNSURE: [[u8; 4]; 5] = [*b"BDHV", *b"VHDB", *b"RKMY", *b"NSSN", *b"ANNT"];
+
 /// The letters A, C, G, T exchanged for other bytes.
-pub fn recoded(ring: &[u8], bytes: [u8; 4]) -> Vec<u8> {
+fn recoded(ring: &[u8], bytes: [u8; 4]) -> Vec<u8> {
     ring.iter().map(|letter| bytes[b"ACGT".iter().position(|l| l == letter).unwrap()]).collect()
+}
+
+/// A word over A, C, G, T in other letters of a kind, `turn` says in which; as it is for a base ring.
+pub fn lettered(kind: u8, word: &[u8], turn: usize) -> Vec<u8> {
+    match kind {
+        FEATURES => recoded(word, BYTES[turn % BYTES.len()]),
+        UNCERTAIN => recoded(word, UNSURE[turn % UNSURE.len()]),
+        _ => word.to_vec(),
+    }
 }
 
 /// A^(n-1) C.

@@ -4,11 +4,11 @@ use crate::facts::Facts;
 use crate::keys::{self, Key};
 use crate::lent::Lent;
 use crate::probe;
-use crate::rules::{judge, Refusal};
+use crate::rules::{self, judge, Refusal};
 use std::fmt::{Debug, Display};
 
 /// The first difference ends the run.
-fn differ(call: impl Display, kind: u8, ring: &[u8], what: String) -> ! {
+pub(crate) fn differ(call: impl Display, kind: u8, ring: &[u8], what: String) -> ! {
     let shown = if ring.len() <= 64 { ring.escape_ascii().to_string() } else { format!("{} letters", ring.len()) };
     eprintln!("DIFFERENCE in {call}, kind {kind}, ring {shown} {:?}: {what}", &ring[..ring.len().min(64)]);
     std::process::exit(1)
@@ -75,7 +75,7 @@ impl Comparison {
 
     /// A ring lent for reading, with letters round it that a call must not look at.
     pub(crate) fn lend(&mut self, ring: &[u8]) -> Lent<u8> {
-        self.lend_amid(ring, &[b'A', b'T', 0, 255, b'C'])
+        self.lend_amid(ring, &[b'A', b'T', 0, 255, b'C', b'N'])
     }
 
     /// Bytes lent for reading, with one of `around` all round them.
@@ -160,7 +160,7 @@ impl Comparison {
     /// The key with two rooms of the sizes given.
     pub fn rooms(&mut self, kind: u8, ring: &[u8], first: usize, second: usize, key: Option<&Key>) {
         let lent = self.lend(ring);
-        let short = first < ring.len() || kind == 1 && second < ring.len();
+        let short = first < ring.len() || rules::stranded(kind) && second < ring.len();
         let verdict = judge(kind, ring, short);
         let (number, place) = numbers(verdict);
         let done = verdict.ok().map(|()| key.expect("the key of a ring that is taken"));

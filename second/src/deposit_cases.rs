@@ -63,22 +63,21 @@ pub fn some_marks(c: &mut Comparison, kind: u8, ring: &[u8], facts: &Facts, key:
     judged(c, marks, ring, keys::owner(marks, ring).as_deref());
 }
 
-/// Whether some ring has each key, start and strand, and which: all rings of n letters are tried.
-pub fn every_key(c: &mut Comparison, alphabet: &[u8], longest: usize) {
-    for kind in [0, 1] {
-        let mut rings = HashMap::new();
-        cases::every(alphabet, longest, |ring| {
-            let key = keys::key(kind, ring);
-            let other = rings.insert((key.letters, key.start, key.strand), ring.to_vec());
-            assert_eq!(other, None, "a second ring with the key, the start and the strand of {ring:?}");
+/// Whether some ring has each key, start and strand, and which: all rings of n letters are tried. The alphabet has with each
+/// letter the one that faces it.
+pub fn every_key(c: &mut Comparison, kind: u8, alphabet: &[u8], longest: usize) {
+    let mut rings = HashMap::new();
+    cases::every(alphabet, longest, |ring| {
+        let key = keys::key(kind, ring);
+        let other = rings.insert((key.letters, key.start, key.strand), ring.to_vec());
+        assert_eq!(other, None, "a second ring with the key, the start and the strand of {ring:?}");
+    });
+    cases::every(alphabet, longest, |letters| {
+        each_mark(kind, letters.len(), |marks| {
+            let owner = rings.get(&(letters.to_vec(), marks.start, marks.strand));
+            judged(c, marks, letters, owner.map(|ring| &ring[..]));
         });
-        cases::every(alphabet, longest, |letters| {
-            each_mark(kind, letters.len(), |marks| {
-                let owner = rings.get(&(letters.to_vec(), marks.start, marks.strand));
-                judged(c, marks, letters, owner.map(|ring| &ring[..]));
-            });
-        });
-    }
+    });
 }
 
 /// Letters that may meet several refusals, with marks far off, in rooms of every size about n.

@@ -4,7 +4,7 @@ use crate::fasta::{Record, Span, NONE};
 use crate::lent::Lent;
 use crate::part_comparison::elsewhere;
 use crate::probe::{self, Part};
-use crate::rules::judge;
+use crate::rules::{judge, BASES};
 
 /// What the call answers with a room of `size` bytes: the number, its fields, and what the room then begins with.
 pub fn answer(record: Option<&Record>, size: usize) -> (u8, [u64; 6], &[u8]) {
@@ -12,7 +12,7 @@ pub fn answer(record: Option<&Record>, size: usize) -> (u8, [u64; 6], &[u8]) {
         return (8, [0; 6], &[]);
     };
     let ([h, i], [r, s]) = (fields(header), fields(rest));
-    match judge(1, letters, size < letters.len()) {
+    match judge(BASES, letters, size < letters.len()) {
         Ok(()) => (0, [0, letters.len() as u64, h, i, r, s], letters),
         Err(refused) => (refused.number, [refused.place as u64, 0, 0, 0, r, s], &[]),
     }

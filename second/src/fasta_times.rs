@@ -3,7 +3,7 @@ use crate::cases::Numbers;
 use crate::fasta_texts::written;
 use crate::lent::Lent;
 use crate::part_comparison::elsewhere;
-use crate::timing::time;
+use crate::timing::{better, time};
 use crate::{plain_fasta, probe};
 use std::hint::black_box;
 
@@ -63,14 +63,6 @@ fn times(rings: &[Lent<u8>], text: &[u8]) -> Times {
     let plain_rest = walked(text, n, |left| plain_fasta::rest(left).offset);
     let mark = time(text.len(), || rings.iter().for_each(|ring| assert!(probe::mark(1, black_box(ring), &mut v) == 0)));
     [[record, plain_record], [rest, plain_rest], [record, mark]]
-}
-
-/// The better of two timings of the same rows.
-fn better(mut own: Times, other: Times) -> Times {
-    for (time, other) in own.as_flattened_mut().iter_mut().zip(other.as_flattened()) {
-        *time = time.min(*other);
-    }
-    own
 }
 
 /// One line for each row: the times at each size with their ratio, and the growth.

@@ -1,13 +1,13 @@
-//! The key of a ring: of all readings, on both strands for a base ring, the least.
+//! The key of a ring: of all readings, on both strands where its kind has two, the least.
 use crate::facts::SHORT;
-use crate::{long, words};
+use crate::{long, rules, words};
 
 #[derive(Clone, Debug, PartialEq, Eq)]
 pub struct Key {
     pub letters: Vec<u8>,
     pub start: usize,
     pub strand: u8,
-    /// The lowest reading of each strand; a feature ring has one strand.
+    /// The lowest reading of each strand that the kind has.
     pub own: Vec<u8>,
     pub other: Option<Vec<u8>>,
 }
@@ -35,7 +35,7 @@ fn start(ring: &[u8]) -> usize {
 pub fn key(kind: u8, ring: &[u8]) -> Key {
     let own_start = start(ring);
     let own = words::reading(ring, own_start);
-    if kind == 0 {
+    if !rules::stranded(kind) {
         return Key { letters: own.clone(), start: own_start, strand: 0, own, other: None };
     }
     let opposite = words::opposite(ring);
@@ -45,13 +45,13 @@ pub fn key(kind: u8, ring: &[u8]) -> Key {
     Key { letters, start, strand, own, other: Some(other) }
 }
 
-/// Whether two rings are one: some reading of the first, on either strand for a base ring, is the second.
+/// Whether two rings are one: some reading of the first, on either strand where the kind has two, is the second.
 pub fn same(kind: u8, first: &[u8], second: &[u8]) -> bool {
     let turned = |ring: &[u8]| {
         let twice = [ring, ring].concat();
         (0..ring.len()).any(|i| &twice[i..i + ring.len()] == second)
     };
-    first.len() == second.len() && (turned(first) || kind == 1 && turned(&words::opposite(first)))
+    first.len() == second.len() && (turned(first) || rules::stranded(kind) && turned(&words::opposite(first)))
 }
 
 /// What letters are judged with as a key.
@@ -81,7 +81,10 @@ pub fn owner(marks: Marks, letters: &[u8]) -> Option<Vec<u8>> {
 /// All rings that have these letters for their key, with its marks. A key is a reading of its ring or of the opposite
 /// strand, so they are among the readings of the letters and of their opposite strand: all of these are tried.
 pub fn owners(kind: u8, letters: &[u8]) -> Vec<(Marks, Vec<u8>)> {
-    let strands = if kind == 1 { vec![letters.to_vec(), words::opposite(letters)] } else { vec![letters.to_vec()] };
+    let mut strands = vec![letters.to_vec()];
+    if rules::stranded(kind) {
+        strands.push(words::opposite(letters));
+    }
     let tried = strands.iter().flat_map(|strand| (0..letters.len()).map(|i| words::reading(strand, i)));
     let keyed = tried.map(|ring| (key(kind, &ring), ring)).filter(|(key, _)| key.letters == letters);
     keyed.map(|(key, ring)| (Marks { kind, start: key.start, strand: key.strand }, ring)).collect()

@@ -87,7 +87,11 @@ pub fn repeat(ring: &[u8]) -> usize {
         border[i] = k;
     }
     let period = n - border[n - 1];
-    if n % period == 0 { period } else { n }
+    if n % period == 0 {
+        period
+    } else {
+        n
+    }
 }
 
 /// Booth's least reading; `failure` is room for twice the letters.

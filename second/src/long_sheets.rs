@@ -1,6 +1,7 @@
 //! Sheets of hundreds to 8,192 letters, damaged: wrong letters, bytes changed, marks changed, cuts, bytes before.
 use crate::cases::Numbers;
 use crate::comparison::Comparison;
+use crate::rules;
 
 /// How many bytes a trailer has.
 const TRAILER: usize = 8;
@@ -30,19 +31,26 @@ fn read(c: &mut Comparison, bytes: &[u8], n: usize) {
     c.sheet_walk(bytes);
 }
 
-/// A base sheet with wrong letters: the place is that of the first, counted from the sheet's first letter.
-pub fn wrong_letters(c: &mut Comparison, numbers: &mut Numbers, sheet: &[u8]) {
+/// Bytes of every sort that are no letters of a kind.
+fn wrong(kind: u8) -> Vec<u8> {
+    let letters = rules::letters(kind).expect("a kind of rings");
+    b"NRacgtnUX@\n\x00\x80\xff".iter().copied().filter(|byte| !letters.contains(byte)).collect()
+}
+
+/// A sheet with wrong letters: the place is that of the first, counted from the sheet's first letter.
+pub fn wrong_letters(c: &mut Comparison, numbers: &mut Numbers, kind: u8, sheet: &[u8]) {
     let n = sheet.len() - TRAILER;
     let fronts = fronts(numbers, sheet);
+    let wrong = wrong(kind);
     for at in places(numbers, n, 1) {
         let mut bytes = sheet.to_vec();
-        bytes[at] = b"Nacgt@\n\x00\x80\xff"[numbers.below(10)];
+        bytes[at] = wrong[numbers.below(wrong.len())];
         for front in &fronts {
             read(c, &[&front[..], &bytes].concat(), n);
         }
         c.sheet_walk(&[&bytes[..], sheet].concat());
         let later = at + numbers.below(n - at);
-        bytes[later] = b'N';
+        bytes[later] = wrong[0];
         read(c, &[&fronts[1][..], &bytes].concat(), n);
     }
 }

@@ -1,9 +1,26 @@
 //! Plain Rust for the benchmark: the usual ways to do each job, with checked indexing unless the name says otherwise.
 //! Nothing here is used by the comparison.
+use crate::rules::IUPAC;
 
 /// Whether every letter is a base.
 pub fn judged(ring: &[u8]) -> bool {
     ring.iter().all(|letter| matches!(letter, b'A' | b'C' | b'G' | b'T'))
+}
+
+/// Which bytes are one of the fifteen letters.
+static FIFTEEN: [bool; 256] = {
+    let mut fifteen = [false; 256];
+    let mut i = 0;
+    while i < IUPAC.len() {
+        fifteen[IUPAC[i] as usize] = true;
+        i += 1;
+    }
+    fifteen
+};
+
+/// Whether every letter is one of the fifteen, by a table.
+pub fn judged_uncertain(ring: &[u8]) -> bool {
+    ring.iter().all(|&letter| FIFTEEN[letter as usize])
 }
 
 /// Whether the reading at `i` is below the one at `j`.
@@ -223,10 +240,14 @@ pub fn repeat(ring: &[u8], table: &mut [u16]) -> usize {
     let n = ring.len();
     match_lengths(ring, table);
     let period = (1..n).find(|&p| table[p] as usize == n - p).unwrap_or(n);
-    if n % period == 0 { period } else { n }
+    if n % period == 0 {
+        period
+    } else {
+        n
+    }
 }
 
-/// The start and strand of the key of a base ring, by Booth's method on both strands.
+/// The start and strand of the key of a ring with two strands, by Booth's method on both.
 pub fn key_by_booth(ring: &[u8], failure: &mut [i32]) -> (usize, u8) {
     let n = ring.len();
     let other = crate::words::opposite(ring);

@@ -1,16 +1,16 @@
 //! The repeat of rings that are a word over and over, and of rings that nearly are.
 use crate::cases::{self, Numbers};
 use crate::comparison::Comparison;
-use crate::{long, words};
+use crate::{long, rules, words};
 
 /// Lengths with many divisors, and those about the limit.
 const LENGTHS: [usize; 10] = [60, 360, 720, 1260, 2520, 4096, 5040, 7560, 8190, 8192];
 
-/// The repeat of a ring as both kinds: by trying each p, and by borders.
+/// The repeat of a ring, by trying each p and by borders, as each kind that has its letters.
 fn tried(c: &mut Comparison, ring: &[u8]) {
     let repeat = words::repeat(ring);
     assert_eq!(repeat, long::repeat(ring), "the second program's two repeats of {ring:?}");
-    for kind in [0, 1] {
+    for kind in rules::kinds().filter(|&kind| rules::judge(kind, ring, false).is_ok()) {
         c.repeat(kind, ring, repeat);
     }
 }
@@ -20,7 +20,7 @@ fn tried(c: &mut Comparison, ring: &[u8]) {
 pub fn powers(c: &mut Comparison, numbers: &mut Numbers) {
     for n in LENGTHS {
         for size in (1..=n).filter(|size| n % size == 0) {
-            for alphabet in [&b"ACGT"[..], b"AC"] {
+            for alphabet in [&b"ACGT"[..], b"AC", rules::IUPAC, b"RN"] {
                 let unit = numbers.word(alphabet, size);
                 let ring = cases::over(&unit, n);
                 tried(c, &ring);

@@ -1,7 +1,7 @@
 //! The program ringline: what it prints for an input, and the program itself run as a process.
 use crate::facts::{self, Facts};
 use crate::keys::{self, Key};
-use crate::rules::judge;
+use crate::rules::{judge, BASES};
 use std::io::{Read, Write};
 use std::path::{Path, PathBuf};
 use std::process::{Command, Stdio};
@@ -20,8 +20,8 @@ pub fn printed(input: &[u8]) -> Vec<u8> {
 /// The report on the bytes read.
 pub fn report(read: &[u8]) -> Vec<u8> {
     let ring = read.strip_suffix(b"\n").unwrap_or(read);
-    match judge(1, ring, false) {
-        Ok(()) => lines(&facts::of(ring), &keys::key(1, ring)),
+    match judge(BASES, ring, false) {
+        Ok(()) => lines(&facts::of(ring), &keys::key(BASES, ring)),
         Err(refusal) => format!("{} {}\n", refusal.number, refusal.place).into_bytes(),
     }
 }

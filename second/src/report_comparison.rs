@@ -25,9 +25,22 @@ pub fn inputs(numbers: &mut Numbers) -> Vec<Vec<u8>> {
     let mut inputs: Vec<Vec<u8>> = Vec::new();
     cases::every(b"AC", 4, |ring| inputs.push(ring.to_vec()));
     cases::every(b"ACGT\n", 2, |ring| inputs.push(ring.to_vec()));
-    for text in
-        ["", "\n", "\n\n", "\r\n", "GATTACA\n", "GATTACA", "GATTACA\r\n", "GATTACA\n\n", "\nGATTACA", "GAN", "GAN\n", "gattaca"]
-    {
+    for text in [
+        "",
+        "\n",
+        "\n\n",
+        "\r\n",
+        "GATTACA\n",
+        "GATTACA",
+        "GATTACA\r\n",
+        "GATTACA\n\n",
+        "\nGATTACA",
+        "GAN",
+        "GAN\n",
+        "gattaca",
+        "GAR",
+        "RYSWKMBDHVN",
+    ] {
         inputs.push(text.as_bytes().to_vec());
     }
     // ACGAC, whose letters come again in a line but not round the ring, and rings that closed on themselves twice and three times

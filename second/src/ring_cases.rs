@@ -4,15 +4,15 @@ use crate::comparison::Comparison;
 use crate::deposit_cases::{about, every_mark, of_key, refused_marks, some_marks};
 use crate::facts::{self, Facts, SHORT};
 use crate::keys::{self, Key};
-use crate::rules::{self, MOST};
-use crate::{report, words};
+use crate::rules::{self, BASES, MOST};
+use crate::{codes, report, words};
 
 /// All that the calls say of a ring that is taken.
 fn known(kind: u8, ring: &[u8]) -> Option<(Facts, Key)> {
     rules::judge(kind, ring, false).is_ok().then(|| (facts::of(ring), keys::key(kind, ring)))
 }
 
-/// From this length on every ring is reported on too.
+/// From this length on every base ring is reported on too.
 const LONG: usize = 1000;
 
 /// Every call on one ring that is lent enough.
@@ -24,7 +24,7 @@ pub fn ring(c: &mut Comparison, kind: u8, ring: &[u8], numbers: &mut Numbers) {
     c.check(kind, ring);
     c.tables(kind, ring, n + more, facts);
     c.alone(kind, ring, facts, key);
-    c.rooms(kind, ring, n + more, if kind == 0 { numbers.below(n + 2) } else { n + numbers.below(3) }, key);
+    c.rooms(kind, ring, n + more, if rules::stranded(kind) { n + numbers.below(3) } else { numbers.below(n + 2) }, key);
     for size in about(n) {
         c.write_letters(kind, ring, size, key);
     }
@@ -36,13 +36,13 @@ pub fn ring(c: &mut Comparison, kind: u8, ring: &[u8], numbers: &mut Numbers) {
         } else {
             some_marks(c, kind, ring, facts, key);
         }
-        if kind == 1 && n >= LONG {
+        if kind == BASES && n >= LONG {
             c.report(ring, &report::lines(facts, key));
         }
     }
 }
 
-/// A ring compared with itself turned, on either strand, and with one letter changed.
+/// A ring compared with itself turned, on either strand, and with one letter changed to one that it has on either strand.
 fn pairs(c: &mut Comparison, kind: u8, ring: &[u8], numbers: &mut Numbers) {
     let n = ring.len();
     let turned = words::reading(ring, numbers.below(n.max(1)) % n.max(1));
@@ -51,7 +51,8 @@ fn pairs(c: &mut Comparison, kind: u8, ring: &[u8], numbers: &mut Numbers) {
     let mut other = turned;
     if n > 0 {
         let at = numbers.below(n);
-        other[at] = b"ACGT"[numbers.below(4)];
+        let letter = ring[numbers.below(n)];
+        other[at] = if numbers.below(2) == 0 { letter } else { codes::facing(letter) };
     }
     c.compare(kind, &other, ring);
 }
@@ -74,16 +75,17 @@ pub fn sizes(c: &mut Comparison, kind: u8, ring: &[u8]) {
     }
 }
 
-/// Rings that are refused and rings about the limit, with a wrong letter and without.
+/// Rings that are refused and rings about the limit: over A, C, G, T, with letters of kind 2, and with letters of kind 0 alone.
 fn refusable() -> Vec<Vec<u8>> {
-    let short: [&[u8]; 8] = [b"", b"A", b"N", b"GANA", b"GATTACA", b"acgt", b"ACGT\n", &[0; 3]];
-    let mut rings: Vec<Vec<u8>> = short.map(<[u8]>::to_vec).to_vec();
+    let bases: [&[u8]; 8] = [b"", b"A", b"N", b"GANA", b"GATTACA", b"acgt", b"ACGT\n", &[0; 3]];
+    let uncertain: [&[u8]; 4] = [b"RYSWKMBDHVN", b"GAUN", b"NNn", b"XNA"];
+    let mut rings: Vec<Vec<u8>> = bases.iter().chain(&uncertain).map(|ring| ring.to_vec()).collect();
     for n in [MOST - 1, MOST, MOST + 1, MOST + 2, 20_000] {
-        for bad in [None, Some(0), Some(n - 1), Some(n / 2)] {
+        let middle = [(1, b'N'), (n / 2, b'X'), (n - 1, b'N')];
+        let ends = [(0, b'N'), (n - 1, b'N'), (n / 2, b'N'), (0, b'U'), (n - 1, b'n')];
+        for changes in ends.chunks(1).chain([&[][..], &middle]) {
             let mut ring = cases::over(b"GATTACA", n);
-            if let Some(at) = bad {
-                ring[at] = b'N';
-            }
+            changes.iter().for_each(|&(at, letter)| ring[at] = letter);
             rings.push(ring);
         }
     }
@@ -93,7 +95,6 @@ fn refusable() -> Vec<Vec<u8>> {
 /// Every refusal, and rings that meet several: the first in the order decides.
 pub fn refusals(c: &mut Comparison) {
     for byte in 0..=255 {
-        c.strands_of(byte);
         for place in [0, 1, 255, 256, MOST - 1, MOST, u32::MAX as usize, usize::MAX] {
             c.refusal(byte, place);
         }
@@ -107,20 +108,10 @@ pub fn refusals(c: &mut Comparison) {
             }
         }
     }
-    // each byte as the one wrong letter of a base ring
-    for byte in 0..=255 {
-        for at in 0..3 {
-            let mut ring = b"GAT".to_vec();
-            ring[at] = byte;
-            c.check(1, &ring);
-            c.compare(1, b"GAT", &ring);
-            c.compare(1, &ring, b"GAN");
-        }
-    }
 }
 
 /// One ring with tables and rooms that are long enough and that are not, and its letters judged as a key.
-fn refusal(c: &mut Comparison, kind: u8, ring: &[u8]) {
+pub fn refusal(c: &mut Comparison, kind: u8, ring: &[u8]) {
     let n = ring.len();
     let known = known(kind, ring);
     let (facts, key) = (known.as_ref().map(|k| &k.0), known.as_ref().map(|k| &k.1));

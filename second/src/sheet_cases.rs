@@ -14,7 +14,7 @@ pub fn sheet(c: &mut Comparison, kind: u8, ring: &[u8], numbers: &mut Numbers) -
     let sheet = sheets::read(&bytes).expect("a sheet that the writer made");
     assert_eq!(sheet.deposit, ring);
     let more = numbers.below(12);
-    let garbage = [&numbers.word(b"ACGT\x00\x08RG", more)[..], &bytes].concat();
+    let garbage = [&numbers.word(b"ACGTN\x00\x08RG", more)[..], &bytes].concat();
     for bytes in [&bytes, &garbage] {
         c.sheet_read(bytes, &[0, n.saturating_sub(1), n, n + 3]);
         c.sheet_walk(bytes);
@@ -45,26 +45,36 @@ pub fn damaged(c: &mut Comparison, bytes: &[u8], values: &[u8]) {
     }
 }
 
+/// The eight bytes behind a sheet's letters.
+fn trailer(way_back: u16, start: u16, strand: u8, kind: u8, tag: [u8; 2]) -> Vec<u8> {
+    [&way_back.to_le_bytes()[..], &start.to_le_bytes(), &[strand, kind], &tag].concat()
+}
+
 /// Trailers that meet several refusals at once, behind letters of every sort.
 pub fn trailers(c: &mut Comparison) {
-    let fronts: [&[u8]; 8] = [b"", b"A", b"AC", b"ACAC", b"AANA", b"ACGT", b"AATCTGT", b"TTTT"];
-    for front in fronts {
-        for way_back in [0, 1, 2, 3, 4, 5, 7, 8, 8192, 8193, 65535u16] {
-            for start in [0, 1, 2, 3, 4, 7, 256, 65535u16] {
-                for strand in [0, 1, 2] {
-                    for kind in [0, 1, 2] {
-                        for tag in [[0x52, 0x47], [0x47, 0x52], [0x52, 0]] {
-                            let mut bytes = front.to_vec();
-                            bytes.extend(way_back.to_le_bytes());
-                            bytes.extend(start.to_le_bytes());
-                            bytes.extend([strand, kind]);
-                            bytes.extend(tag);
-                            c.sheet_read(&bytes, &[0, 7]);
-                            c.sheet_walk(&bytes);
-                        }
+    let bases: [&[u8]; 8] = [b"", b"A", b"AC", b"ACAC", b"AANA", b"ACGT", b"AATCTGT", b"TTTT"];
+    let uncertain: [&[u8]; 6] = [b"AAAN", b"NN", b"BDHV", b"RYRY", b"NU", b"an"];
+    for front in bases.into_iter().chain(uncertain) {
+        for way_back in [0, 1, 2, 3, 4, 5, 7, 8, 8192, 8193, 65535] {
+            for start in [0, 1, 2, 3, 4, 7, 256, 65535] {
+                for (strand, kind) in (0..3).flat_map(|strand| (0..4).map(move |kind| (strand, kind))) {
+                    for tag in [[0x52, 0x47], [0x47, 0x52], [0x52, 0]] {
+                        let bytes = [front, &trailer(way_back, start, strand, kind, tag)].concat();
+                        c.sheet_read(&bytes, &[0, 7]);
+                        c.sheet_walk(&bytes);
                     }
                 }
             }
         }
+    }
+}
+
+/// Letters as those of a sheet, whether they are a key or not and whether they are permitted or not, with every start and strand.
+pub fn as_sheet(c: &mut Comparison, kind: u8, letters: &[u8]) {
+    let n = letters.len() as u16;
+    for (start, strand) in (0..=n).flat_map(|start| (0..3).map(move |strand| (start, strand))) {
+        let bytes = [letters, &trailer(n, start, strand, kind, sheets::TAG)].concat();
+        c.sheet_read(&bytes, &[letters.len()]);
+        c.sheet_walk(&bytes);
     }
 }

@@ -4,7 +4,7 @@ use crate::rules;
 use crate::rules::{refusal, Refusal, MOST};
 
 /// The tag in the last two bytes of a trailer.
-const TAG: [u8; 2] = [0x52, 0x47];
+pub const TAG: [u8; 2] = [0x52, 0x47];
 
 /// A sheet read.
 #[derive(Clone, Debug, PartialEq, Eq)]
@@ -34,7 +34,7 @@ pub fn read(bytes: &[u8]) -> Result<Sheet, Refusal> {
         return Err(refusal(5));
     };
     let [n0, n1, s0, s1, strand, kind, tag @ ..] = *trailer;
-    if tag != TAG || kind > 1 || strand > 1 || (kind == 0 && strand == 1) {
+    if tag != TAG || rules::letters(kind).is_none() || strand > 1 || (strand == 1 && !rules::stranded(kind)) {
         return Err(refusal(6));
     }
     let n = u16::from_le_bytes([n0, n1]) as usize;

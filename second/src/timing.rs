@@ -18,3 +18,11 @@ pub fn time(n: usize, mut run: impl FnMut()) -> f64 {
     }
     best / n as f64
 }
+
+/// The better of two timings of the same rows, each of two times.
+pub fn better<const N: usize>(mut own: [[f64; 2]; N], other: [[f64; 2]; N]) -> [[f64; 2]; N] {
+    for (time, other) in own.as_flattened_mut().iter_mut().zip(other.as_flattened()) {
+        *time = time.min(*other);
+    }
+    own
+}

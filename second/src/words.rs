@@ -1,4 +1,5 @@
 //! Words, readings and strands, straight from their definitions: whole words are compared, nothing is skipped.
+use crate::codes;
 
 /// The reading at `i`: the letters from `i` round to `i - 1`.
 pub fn reading(ring: &[u8], i: usize) -> Vec<u8> {
@@ -57,18 +58,7 @@ pub fn repeat(ring: &[u8]) -> usize {
     (1..=n).find(|&p| twice[p..p + n] == *ring).unwrap()
 }
 
-/// The letter that faces a letter of a base ring.
-fn facing(letter: u8) -> u8 {
-    match letter {
-        b'A' => b'T',
-        b'T' => b'A',
-        b'C' => b'G',
-        b'G' => b'C',
-        other => other,
-    }
-}
-
 /// The letters in backward order, each exchanged for the one that faces it.
 pub fn opposite(ring: &[u8]) -> Vec<u8> {
-    ring.iter().rev().map(|&letter| facing(letter)).collect()
+    ring.iter().rev().map(|&letter| codes::facing(letter)).collect()
 }

@@ -1,8 +1,9 @@
 //! Times each call of the library beside plain Rust on the same rings and texts, in one run.
 use second::cases::{self, Numbers};
 use second::lent::Lent;
+use second::rules::{BASES, UNCERTAIN};
 use second::timing::time;
-use second::{duels, fasta_times, keys, long, plain, probe, process_times, report, sheets};
+use second::{duels, fasta_times, keys, long, plain, probe, process_times, report, sheets, uncertain_times};
 use std::hint::black_box;
 
 struct Row {
@@ -111,16 +112,41 @@ fn rows(family: &'static str, words: &[Vec<u8>]) -> Vec<Row> {
     rows
 }
 
+/// The calls as kind 2 beside the same calls as kind 1, on the same rings.
+fn kind_rows(family: &'static str, words: &[Vec<u8>]) -> Vec<Row> {
+    let n = words[0].len();
+    let lend = |word: &Vec<u8>| Lent::holding(word, b'A');
+    let rings: Vec<Lent<u8>> = words.iter().map(lend).collect();
+    let turned: Vec<(Lent<u8>, Lent<u8>)> = words.iter().map(|w| (lend(w), lend(&second::words::reading(w, n / 3)))).collect();
+    let mut v = Lent::room(6, |_| 0u64);
+    let mut kinds = |run: &dyn Fn(u8, &mut Lent<u64>) -> f64| (run(BASES, &mut v), run(UNCERTAIN, &mut v));
+    let check = kinds(&|kind, v| each(&rings, n, |r| assert!(probe::check(kind, r, v) == 0)));
+    let mark = kinds(&|kind, v| each(&rings, n, |r| assert!(probe::mark(kind, r, v) == 0)));
+    let compare = kinds(&|kind, v| each(&turned, n, |(a, b)| assert!(probe::compare(kind, a, b, v) == 0)));
+    let row = |call, beside, (bases, uncertain)| Row { call, family, n, library: uncertain, plain: vec![(beside, bases)] };
+    vec![
+        row("check, kind 2", "check, kind 1", check),
+        row("mark, kind 2", "mark, kind 1", mark),
+        row("compare, kind 2", "compare, kind 1", compare),
+    ]
+}
+
+fn all_rows(family: &'static str, words: &[Vec<u8>]) -> Vec<Row> {
+    let mut all = rows(family, words);
+    all.extend(kind_rows(family, words));
+    all
+}
+
 fn main() {
     println!(
-        "Nanoseconds a letter, kind 1, best of 8 passes of 15 batches; 131,072 random letters in turn. Tables, rooms and failure tables are made once and not cleared between"
+        "Nanoseconds a letter, kind 1 where none is named, best of 8 passes of 15 batches; 131,072 random letters in turn. Tables, rooms and failure tables are made once and not cleared between"
     );
     println!("calls, by either side; plain Rust judges the letters too. A ratio is the library's time by the time beside it; growth is");
     println!("the library's time a letter at 8,192 letters by that at 1,024.");
     println!();
     let lengths = [1024, 8192];
     let once = || -> Vec<Row> {
-        lengths.iter().flat_map(|&n| families(n)).flat_map(|(family, letters)| rows(family, &letters)).collect()
+        lengths.iter().flat_map(|&n| families(n)).flat_map(|(family, letters)| all_rows(family, &letters)).collect()
     };
     // passes a few seconds apart, so that a busy moment of the machine spoils no row
     let all = (1..8).fold(once(), |best, _| best.into_iter().zip(once()).map(|(a, b)| a.better(b)).collect());
@@ -160,6 +186,8 @@ fn main() {
         let mean = |rings: &[Vec<u8>]| rings.iter().map(pairs).sum::<f64>() / rings.len() as f64;
         println!("| {family} | {:.2} | {:.2} |", mean(small), mean(&large));
     }
+    println!();
+    uncertain_times::print();
     println!();
     fasta_times::print();
     println!();

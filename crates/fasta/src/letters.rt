@@ -9,7 +9,7 @@ use super::base::{BYTES, look_up};
 use super::byte::{is_kept, turns_at};
 
 // How many letters are kept, the first that is no base (the text's length where all are bases), and where the next header stands.
-#[derive(Drop)]
+#[derive(Clone, Copy)]
 pub struct Counted {
     pub n: usize,
     pub other: usize,

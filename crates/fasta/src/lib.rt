@@ -1,4 +1,6 @@
 // FASTA text read record by record: the header, the letters in a lent room, and the text that remains.
+#![tactic(auto)]
+
 mod answer;
 mod base;
 mod byte;

@@ -1,4 +1,6 @@
 // Runs the rules of FASTA text one by one through the calls of `fasta`, and prints what came back.
+#![tactic(auto)]
+
 mod bytes;
 mod letters;
 mod lines;

@@ -1,4 +1,6 @@
 // What `ringline` prints, as bytes in a lent room.
+#![tactic(auto)]
+
 mod decimal;
 mod lines;
 mod sizes;

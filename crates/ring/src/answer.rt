@@ -1,14 +1,14 @@
 // What the public calls answer: 01's number and place first, and for a refused call every other field 0.
 
 // The number and the place alone: a ring judged, a table or a room filled.
-#[derive(Drop)]
+#[derive(Clone, Copy)]
 pub struct Checked {
     pub number: u8,
     pub place: usize,
 }
 
 // The factor route: how many factors, and the start.
-#[derive(Drop)]
+#[derive(Clone, Copy)]
 pub struct Factored {
     pub number: u8,
     pub place: usize,
@@ -17,7 +17,7 @@ pub struct Factored {
 }
 
 // The duel route: the start, and the pairs read.
-#[derive(Drop)]
+#[derive(Clone, Copy)]
 pub struct Fought {
     pub number: u8,
     pub place: usize,
@@ -26,7 +26,7 @@ pub struct Fought {
 }
 
 // The repeat of a ring.
-#[derive(Drop)]
+#[derive(Clone, Copy)]
 pub struct Repeated {
     pub number: u8,
     pub place: usize,
@@ -34,7 +34,7 @@ pub struct Repeated {
 }
 
 // The key's marks: how many letters it has, its start and its strand.
-#[derive(Drop)]
+#[derive(Clone, Copy)]
 pub struct Marked {
     pub number: u8,
     pub place: usize,
@@ -44,7 +44,7 @@ pub struct Marked {
 }
 
 // The comparison: which ring was refused, and whether the two are one.
-#[derive(Drop)]
+#[derive(Clone, Copy)]
 pub struct Compared {
     pub number: u8,
     pub place: usize,

@@ -10,7 +10,7 @@ use super::judge::{Verdict, judge, number_of, place_of};
 use super::reading::letter;
 
 // Where the two positions of a duel stand.
-#[derive(Drop)]
+#[derive(Clone, Copy)]
 struct Pair {
     p: usize,
     q: usize,
@@ -36,7 +36,7 @@ fn moved(p: usize, q: usize, k: usize, a: u8, b: u8) -> Pair
 }
 
 // Where the duels end, and the pairs read.
-#[derive(Drop)]
+#[derive(Clone, Copy)]
 struct Ended {
     start: usize,
     pairs: usize,

@@ -17,7 +17,7 @@ use super::reading::lower_of;
 use super::strand::{place, shown};
 
 // A first factor: its length, how many letters its scan has read, and where the letter stands that was expected next.
-#[derive(Drop)]
+#[derive(Clone, Copy)]
 pub struct Factor {
     pub size: usize,
     pub read: usize,
@@ -54,7 +54,7 @@ fn first_factor(facing: &[u8; 256], s: &[u8], strand: u8, read: usize, back: usi
 }
 
 // How long the first factor is, and where the run of factors equal to it ends.
-#[derive(Drop)]
+#[derive(Clone, Copy)]
 pub struct Run {
     pub size: usize,
     pub end: usize,
@@ -75,7 +75,7 @@ pub fn first_run(facing: &[u8; 256], s: &[u8], strand: u8) -> Run
 }
 
 // What is read of the slice behind a factor, and whether a run of equal factors begins there.
-#[derive(Drop)]
+#[derive(Clone, Copy)]
 pub struct Behind {
     pub read: usize,
     pub back: usize,
@@ -113,7 +113,7 @@ fn best_of(facing: &[u8; 256], ring: &[u8], head: bool, from: usize, best: usize
 }
 
 // How many factors a ring has, and its start.
-#[derive(Drop)]
+#[derive(Clone, Copy)]
 struct Route {
     count: usize,
     start: usize,

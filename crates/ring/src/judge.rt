@@ -10,7 +10,7 @@ use super::kind::{is_known, is_letter, letter_table, takes_every_byte};
 pub const MOST: usize = 8192;
 
 // What is said of a ring; `Letter` holds the first position that has no letter of the kind, `NotKey` is said of letters judged as a key.
-#[derive(Drop)]
+#[derive(Clone, Copy)]
 pub enum Verdict {
     Taken,
     Kind,

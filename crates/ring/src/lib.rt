@@ -1,4 +1,6 @@
 // The ring rules: judging, factors, prefix tables, the two routes to a start, keys and comparison.
+#![tactic(auto)]
+
 mod answer;
 mod comparison;
 mod deposits;

@@ -12,7 +12,7 @@ use super::reading::{lower, put_reading};
 use super::start::start_of;
 
 // A ring with two strands: the start as given, the start of the opposite strand, and the strand that holds the key.
-#[derive(Drop)]
+#[derive(Clone, Copy)]
 pub struct Strands {
     pub own: usize,
     pub other: usize,

@@ -2,7 +2,7 @@
 use shown::{letters, marked, number, text};
 
 // What is printed: the key's marks, its letters, or only their number.
-#[derive(Drop)]
+#[derive(Clone, Copy)]
 pub enum Call {
     Marks,
     Letters,

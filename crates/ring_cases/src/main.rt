@@ -1,4 +1,6 @@
 // Runs the examples and the edges of the ring rules through the calls of `ring`, and prints what came back.
+#![tactic(auto)]
+
 mod brief;
 mod calls;
 mod comparison;

@@ -1,7 +1,7 @@
 // The calls that fill a table.
 use shown::{checked, factored, text};
 
-#[derive(Drop)]
+#[derive(Clone, Copy)]
 pub enum Call {
     Factors,
     Suffixes,

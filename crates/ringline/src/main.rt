@@ -1,4 +1,6 @@
 // Reads one base ring from standard input and prints its report, in one write.
+#![tactic(auto)]
+
 use libc::{STDIN_FILENO, STDOUT_FILENO};
 
 // The first `size` bytes of a room.

@@ -3,7 +3,7 @@
 use ring::Marked;
 
 // What stands at the end of lent bytes: a sheet, or the number of its refusal with its place.
-#[derive(Drop)]
+#[derive(Clone, Copy)]
 pub enum Found {
     Sheet {
         marked: Marked,
@@ -14,7 +14,7 @@ pub enum Found {
 }
 
 // What a trailer points to: n letters behind the bytes before, and the marks that it has for them.
-#[derive(Drop)]
+#[derive(Clone, Copy)]
 pub struct Points {
     pub n: usize,
     pub start: usize,
@@ -24,7 +24,7 @@ pub struct Points {
 }
 
 // A sheet read: the key's marks, its kind, and how many bytes stand before it.
-#[derive(Drop)]
+#[derive(Clone, Copy)]
 pub struct Entry {
     pub marked: Marked,
     pub kind: u8,
@@ -32,7 +32,7 @@ pub struct Entry {
 }
 
 // A book walked.
-#[derive(Drop)]
+#[derive(Clone, Copy)]
 pub struct Walked {
     pub number: u8,
     pub place: usize,

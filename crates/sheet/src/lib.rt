@@ -1,4 +1,6 @@
 // The catalogue sheet: written, read from the end of lent bytes, turned back to its deposit, and a book of sheets walked.
+#![tactic(auto)]
+
 mod answer;
 mod book;
 mod reader;

@@ -38,7 +38,7 @@ fn each(bytes: &mut [u8]) {
 }
 
 // A count of each number, 0 to 7.
-#[derive(Drop)]
+#[derive(Clone, Copy)]
 struct Counts {
     of: [usize; 8],
 }

@@ -1,4 +1,6 @@
 // Runs the examples and the edges of sheets, books and the report, damage among them, and prints what came back.
+#![tactic(auto)]
+
 mod books;
 mod damage;
 mod reports;

@@ -1,4 +1,6 @@
 // What the programs `ring_cases`, `sheet_cases` and `fasta_cases` print with, and the part of a room or table that they lend.
+#![tactic(auto)]
+
 mod answers;
 mod lend;
 mod show;

@@ -26,6 +26,8 @@ raise [] y s z h k l = absurd (omega arith)
 
 -- what is decided against a word that is no longer than u' is decided in u'
 within : (u r v : List ℕ) → u ++ r ≪ v → length v ≤ length u → u ≪ v
+within [] r [] h l = elim h [ ]
+within (a ∷ u) r [] h l = elim h [ ]
 within [] r (b ∷ v) h l = absurd (omega arith)
 within (a ∷ u) r (b ∷ v) (here h) l = here h
 within (a ∷ u) r (b ∷ v) (later e h) l = later e (within u r v h (omega arith))

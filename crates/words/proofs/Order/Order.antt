@@ -110,6 +110,7 @@ prefix_before (a ∷ u) v h = next refl (prefix_before u v h)
 
 -- a prefix is no greater
 pub prefix_le : (u v : List ℕ) → u ≼ u ++ v
+prefix_le [] v h = elim h [ ]
 prefix_le (a ∷ u) v h = prefix_le u v (uncons refl h)
 
 -- how a scan decides: equal letters below k, and a lesser one at k

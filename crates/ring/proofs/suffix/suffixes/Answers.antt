@@ -1,0 +1,11 @@
+-- `ring::suffix::suffixes` meets its contract.
+use Rattle.std.proofs.Common.{◌≡◌, ℕ, ◌+◌, ◌-◌, ◌*◌, ◌<◌, ◌≤◌, Bool, true, false, List, [], ◌∷◌, ◌++◌, length, take, drop, get_or, refl, sym, ◌∙◌, ap, arith, rules}
+use Rattle.ring.specs.Answers.{checked_as}
+use Rattle.ring.proofs.Judging.{not_taken}
+use Rattle.ring.proofs.Exactly.{taken_permitted}
+use borrow.Author.Tests.{ltb-false}
+use Rattle.ring.proofs.suffix.suffixes.Goals as goal
+
+pub fill_suffixes-requires : goal.fill_suffixes-requires
+fill_suffixes-requires c =
+    let f = taken_permitted _ _ _ (sym c.judge-v.ensures ∙ c.in-Taken.is) in (ltb-false _ _ f.1, f.0.within)

@@ -7,7 +7,7 @@ use Prim.Native.Nat.{ℕ, ◌≤◌, ◌<◌, ◌-◌}
 use native.Mathlib.Omega.{arith}
 use borrow.Author.Tests.{eq-eqb, ne_eqb}
 use lib.ListN.{length}
-use Rattle.words.specs.Rings.Ring.{reading, start}
+use Rattle.words.specs.Rings.Ring.{reading}
 use Rattle.words.specs.Keys.Strand.{opposite, on_strand, strand, key_start, key}
 use Rattle.words.proofs.Keys.Strand.{opposite-reading}
 use Rattle.ring.specs.Judging.{Permitted}

@@ -4,11 +4,11 @@
 use mathlib.Core.Path.{◌≡◌, refl, sym, ap, ap₂, ◌∙◌}
 use mathlib.Core.Bool.{Bool, false, cond, not}
 use mathlib.Core.List.{List, [], ◌∷◌, ◌++◌}
-use Prim.Native.Nat.{ℕ, suc, ◌<◌, ◌-◌}
+use Prim.Native.Nat.{ℕ, suc, ◌-◌}
 use native.Mathlib.Omega.{arith}
 use borrow.Author.Tests.{eqb-false}
-use lib.ListN.{length, get_or}
-use Rattle.words.specs.Keys.Kind.{is_letter, stranded}
+use lib.ListN.{length}
+use Rattle.words.specs.Keys.Kind.{stranded}
 use Rattle.words.specs.Rings.Ring.{lowest}
 use Rattle.words.specs.Keys.Strand.{opposite, strand, key_start, key}
 use Rattle.words.proofs.Order.Search.{by_test}

@@ -11,9 +11,6 @@ use lib.Dec.{eqb}
 use lib.ListN.{length, drop, get_or}
 use lib.Seq.{drop-cons, drop-length}
 use Rattle.words.specs.Keys.Kind.{known, is_letter}
-use types.Run.{OneOf, miss}
-use denote.Enum.Declared.{tag_of}
-use Rattle.ring.specs.contracts.judge.Verdict.{the_type}
 use Rattle.ring.specs.declared.judge.Verdict.{Verdict}
 use Rattle.ring.specs.declared.judge.Verdict.TheVariants.{Taken, Kind, Empty, Long, Letter, Short, NotKey}
 use Rattle.ring.specs.Judging.{most, first_bad, taken, verdict}
@@ -82,8 +79,8 @@ module _ (kind : ℕ) (w : List ℕ) (short : Bool) where
 
 -- ---- an answer's arm for every verdict but Taken
 
-pub not_taken : (v : Verdict) → OneOf (1 ∷ 2 ∷ 3 ∷ 4 ∷ 5 ∷ 6 ∷ []) (tag_of the_type v) → taken v ≡ false
-not_taken Taken o = absurd (miss (1 ∷ 2 ∷ 3 ∷ 4 ∷ 5 ∷ 6 ∷ []) 0 tt o)
+pub not_taken : (v : Verdict) → (v ≡ Taken → ⊥) → taken v ≡ false
+not_taken Taken o = absurd (o refl)
 not_taken Kind o = refl
 not_taken Empty o = refl
 not_taken Long o = refl

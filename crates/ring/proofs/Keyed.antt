@@ -9,7 +9,7 @@ use borrow.Author.Tests.{ltb-false}
 use lib.Dec.{ltb}
 use lib.ListN.{length, drop}
 use Rattle.words.specs.Keys.Kind.{stranded}
-use Rattle.words.specs.Rings.Ring.{reading, start, lowest}
+use Rattle.words.specs.Rings.Ring.{reading, lowest}
 use Rattle.words.specs.Keys.Strand.{opposite, strand, key_start}
 use Rattle.words.proofs.Order.Search.{by_test, neither}
 use Rattle.words.proofs.Keys.Strand.{length-opposite}

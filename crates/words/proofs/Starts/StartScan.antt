@@ -10,7 +10,7 @@ use Rattle.words.specs.Rings.Ring.{start}
 use Rattle.words.proofs.Rings.Ring.{start_one}
 use Rattle.words.proofs.Factors.Over.{Over, part, again}
 use Rattle.words.proofs.Factors.Scan.{Scan}
-use Rattle.words.proofs.Starts.Push.{power, power_zero, power_suc, AtMost, front, More}
+use Rattle.words.proofs.Starts.Push.{power, power_zero, power_suc, AtMost, More}
 use Rattle.words.proofs.Starts.Chain.{Above}
 use Rattle.words.proofs.Starts.Start.{Tail, tail_longest, tail_most, tail_length, Chain, new, good, bad, chain, agrees_same}
 

@@ -1,8 +1,6 @@
 -- `ring::comparison::compare` meets its contract.
-use Rattle.std.proofs.Common.{◌≡◌, ℕ, ◌+◌, ◌-◌, ◌*◌, ◌<◌, ◌≤◌, Bool, true, false, List, [], ◌∷◌, ◌++◌, length, take, drop, get_or, refl, sym, ◌∙◌, ap, arith, rules}
-use Rattle.ring.proofs.Judging.{not_taken}
+use Rattle.std.proofs.Common.{sym, ◌∙◌}
 use Rattle.ring.proofs.Exactly.{taken_permitted}
-use Rattle.ring.proofs.ComparedLemmas.{compared_first, compared_second, compared_done}
 use Rattle.ring.proofs.comparison.compare.Goals as goal
 
 pub same_key-requires : goal.same_key-requires

@@ -1,5 +1,5 @@
 -- `ring::comparison::same_key` meets its contract.
-use Rattle.std.proofs.Common.{◌≡◌, ℕ, ◌+◌, ◌-◌, ◌*◌, ◌<◌, ◌≤◌, Bool, true, false, List, [], ◌∷◌, ◌++◌, length, take, drop, get_or, refl, sym, ◌∙◌, ap, arith, rules}
+use Rattle.std.proofs.Common.{sym, ◌∙◌, ap}
 use Rattle.ring.proofs.Marks.{found_within}
 use Rattle.words.specs.Rings.Ring.{reading, lowest}
 use Rattle.words.specs.Keys.Strand.{opposite}
@@ -12,11 +12,11 @@ returns-then-first-second c = same_length _ _ _ c.requires.0 c.requires.1 c.if-f
 
 pub same_reading-requires : goal.same_reading-requires
 same_reading-requires c = (
-    c.facing_table-facing.ensures,
-    found_within 0 _ _ c.start_of-a.ensures c.requires.0,
-    found_within 0 _ _ c.start_of-b.ensures c.requires.1,
-    c.if-first-second.false,
-  )
+  c.facing_table-facing.ensures,
+  found_within 0 _ _ c.start_of-a.ensures c.requires.0,
+  found_within 0 _ _ c.start_of-b.ensures c.requires.1,
+  c.if-first-second.false,
+)
 
 pub returns-then-same_reading : goal.returns-then-same_reading
 returns-then-same_reading c =

@@ -1,5 +1,5 @@
 -- `ring::comparison::same_opposite` meets its contract.
-use Rattle.std.proofs.Common.{◌≡◌, ℕ, ◌+◌, ◌-◌, ◌*◌, ◌<◌, ◌≤◌, Bool, true, false, List, [], ◌∷◌, ◌++◌, length, take, drop, get_or, refl, sym, ◌∙◌, ap, arith, rules}
+use Rattle.std.proofs.Common.{◌∙◌}
 use Rattle.words.specs.Rings.Ring.{lowest}
 use Rattle.ring.proofs.Marks.{found_within}
 use Rattle.ring.proofs.comparison.same_opposite.Goals as goal

@@ -1,5 +1,5 @@
 -- `ring::deposits::put_deposit` meets its contract: the deposit is one reading of the letters.
-use Rattle.std.proofs.Common.{◌≡◌, ℕ, ◌+◌, ◌-◌, ◌*◌, ◌<◌, ◌≤◌, Bool, true, false, List, [], ◌∷◌, ◌++◌, length, take, drop, get_or, refl, sym, ◌∙◌, ap, arith, rules}
+use Rattle.std.proofs.Common.{◌∙◌}
 use Rattle.ring.proofs.Deposit.{deposit_other, deposit_own}
 use Rattle.ring.proofs.deposits.put_deposit.Goals as goal
 

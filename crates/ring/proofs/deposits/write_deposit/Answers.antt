@@ -1,8 +1,8 @@
-use Rattle.std.proofs.Common.{rules, ◌≡◌, ◌≤◌, length, ℕ, ◌+◌, ◌-◌, ◌*◌, ◌<◌, ◌/◌, ◌%◌, Bool, true, false, nat_eq, nat_lt, List, [], ◌∷◌, ◌++◌, slice_index_or, slice_set, bit_and, bit_or, Fits, w8, w32, w64, Bor, MutBor}
-use Rattle.ring.specs.Judging.{over}
-use Rattle.ring.specs.Answers.{deposit, deposited_of, deposit_room}
+-- `ring::deposits::write_deposit` meets its contract.
+use Rattle.std.proofs.Common.{length, sym, ◌∙◌}
+use Rattle.ring.proofs.AsKey.{deposit_fits}
 use Rattle.ring.proofs.deposits.write_deposit.Goals as goal
 
--- src/deposits.rt:33:5
 pub put_deposit-requires : goal.put_deposit-requires
-put_deposit-requires c = ?
+put_deposit-requires c =
+    let r = c.args in deposit_fits r.kind r.letters.now r.start r.strand (length r.room.now) (sym c.judge_key-v.ensures ∙ c.in-Taken.is)

@@ -1,5 +1,4 @@
 -- `ring::facing::look_up` meets its contract.
-use Rattle.std.proofs.Common.{◌≡◌, ℕ, ◌+◌, ◌-◌, ◌*◌, ◌<◌, ◌≤◌, Bool, true, false, List, [], ◌∷◌, ◌++◌, length, take, drop, get_or, refl, sym, ◌∙◌, ap, arith, rules}
 use Rattle.words.proofs.Keys.Facing.{facing_at}
 use Rattle.ring.proofs.facing.look_up.Goals as goal
 

@@ -1,8 +1,7 @@
 -- `ring::factor::factors` meets its contract.
-use Rattle.std.proofs.Common.{◌≡◌, ℕ, ◌+◌, ◌-◌, ◌*◌, ◌<◌, ◌≤◌, Bool, true, false, List, [], ◌∷◌, ◌++◌, length, take, drop, get_or, refl, sym, ◌∙◌, ap, arith, rules}
+use Rattle.std.proofs.Common.{sym, ◌∙◌}
 use Rattle.words.proofs.Factors.Route.{route_is}
-use Rattle.ring.proofs.Judging.{not_taken}
-use Rattle.ring.proofs.Replies.{factored_refused, factored_done}
+use Rattle.ring.proofs.Replies.{factored_done}
 use Rattle.ring.proofs.Exactly.{taken_permitted}
 use borrow.Author.Tests.{ltb-false}
 use Rattle.ring.proofs.factor.factors.Goals as goal

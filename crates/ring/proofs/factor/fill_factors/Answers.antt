@@ -1,8 +1,7 @@
 -- `ring::factor::fill_factors` meets its contract. The invariant is `Routing`.
-use Rattle.std.proofs.Common.{◌≡◌, ℕ, ◌+◌, ◌-◌, ◌*◌, ◌<◌, ◌≤◌, Bool, true, false, List, [], ◌∷◌, ◌++◌, length, take, drop, get_or, refl, sym, ◌∙◌, ap, arith, rules}
+use Rattle.std.proofs.Common.{refl, arith, rules}
 use Rattle.words.proofs.Factors.Run.{best_below}
-use Rattle.words.proofs.Factors.Scan.{factor_within}
-use Rattle.ring.proofs.Routing.{Routing, routing_none, routing_left, routing_fits, routing_best, routing_next, routing_end}
+use Rattle.ring.proofs.Routing.{routing_none, routing_left, routing_best, routing_next, routing_end}
 use Rattle.ring.proofs.factor.fill_factors.Goals as goal
 
 pub loop-rest-init : goal.loop-rest-init

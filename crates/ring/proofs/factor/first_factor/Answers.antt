@@ -1,8 +1,6 @@
 -- `ring::factor::first_factor` meets its contract. The invariant is the scan of `Rattle.words.proofs.Factors.Scan`, on the strand; letters that
-use Rattle.std.proofs.Common.{◌≡◌, ℕ, ◌+◌, ◌-◌, ◌*◌, ◌<◌, ◌≤◌, Bool, true, false, List, [], ◌∷◌, ◌++◌, length, take, drop, get_or, refl, sym, ◌∙◌, ap, arith, rules}
-use Rattle.words.specs.Keys.Strand.{on_strand}
-use Rattle.words.proofs.Order.Search.{either}
-use Rattle.words.proofs.Factors.Scan.{Scan, scan_greater, scan_equal}
+use Rattle.std.proofs.Common.{arith}
+use Rattle.words.proofs.Factors.Scan.{scan_greater, scan_equal}
 use Rattle.words.proofs.Keys.Strand.{length-strand}
 use Rattle.ring.proofs.OnStrand.{alike, less, more}
 use Rattle.ring.proofs.factor.first_factor.Goals.{then-a-b, else-a-b+else-shown, else-loop-j-test, then-loop-j-test+else-a-b+then-shown}
@@ -19,7 +17,7 @@ loop-j-preserved c =
     let q = c.place-in-loop-j.ensures.0 in (
       i.0,
       elim c.if-a-b.branch [
-        then-a-b w ↦ rw w.k-is (scan_equal _ _ _ i.1 (omega arith) (alike c.args.strand c.args.s.now _ _ _ _ (omega arith) (omega arith) p q w.if-a-b.true))
+        | then-a-b w ↦ rw w.k-is (scan_equal _ _ _ i.1 (omega arith) (alike c.args.strand c.args.s.now _ _ _ _ (omega arith) (omega arith) p q w.if-a-b.true))
         | else-a-b+else-shown w ↦ rw w.k-is (scan_greater _ _ _ i.1 (omega arith) (more c.args.strand c.args.s.now _ _ _ _ (omega arith) (omega arith) p q _ _ w.shown.ensures w.shown-else-a-b.ensures w.if-a-b.false w.if-shown.false))
       ],
     )
@@ -32,7 +30,7 @@ returns c =
       size = omega arith;
       scan = i.1;
       stops = λ l. elim c.loop-j-test.branch [
-        else-loop-j-test w ↦ absurd (omega arith)
+        | else-loop-j-test w ↦ absurd (omega arith)
         | then-loop-j-test+else-a-b+then-shown w ↦ less c.args.strand c.args.s.now _ _ _ _ (omega arith) (omega arith) w.place.ensures.0 w.place-in-loop-j.ensures.0 _ _ w.shown.ensures w.shown-else-a-b.ensures w.if-shown.true
       ];
     }

@@ -1,5 +1,5 @@
 -- `ring::factor::first_run` meets its contract: the run from the scan that found its factor.
-use Rattle.std.proofs.Common.{◌≡◌, ℕ, ◌+◌, ◌-◌, ◌*◌, ◌<◌, ◌≤◌, Bool, true, false, List, [], ◌∷◌, ◌++◌, length, take, drop, get_or, refl, sym, ◌∙◌, ap, arith, rules}
+use Rattle.std.proofs.Common.{arith}
 use Rattle.words.proofs.Factors.Scan.{scan_first, factor_run}
 use Rattle.words.proofs.Keys.Strand.{length-strand}
 use Rattle.ring.proofs.factor.first_run.Goals as goal

@@ -1,5 +1,5 @@
 -- `ring::judge::first_bad` meets its contract.
-use Rattle.std.proofs.Common.{◌≡◌, ◌-◌, length}
+use Rattle.std.proofs.Common.{◌-◌, length}
 use Rattle.ring.proofs.Judging.{Passed}
 use Rattle.ring.proofs.judge.first_bad.Given as goal
 

@@ -1,5 +1,5 @@
 -- `ring::judge::judge` meets its contract: each return is the rule whose test led there.
-use Rattle.std.proofs.Common.{◌≡◌, ℕ, ◌+◌, ◌-◌, ◌*◌, ◌<◌, ◌≤◌, Bool, true, false, List, [], ◌∷◌, ◌++◌, length, take, drop, get_or, refl, sym, ◌∙◌, ap, arith, rules}
+use Rattle.std.proofs.Common.{sym, ◌∙◌, arith}
 use Rattle.ring.proofs.Judging.{says_kind, says_empty, says_long, says_letter, says_short, says_taken}
 use Rattle.ring.proofs.judge.judge.Goals as goal
 

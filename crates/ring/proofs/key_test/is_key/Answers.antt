@@ -1,25 +1,25 @@
-use Rattle.std.proofs.Common.{rules, ◌≡◌, ◌<◌, length, ℕ, ◌+◌, ◌-◌, ◌*◌, ◌≤◌, ◌/◌, ◌%◌, Bool, true, false, nat_eq, nat_lt, List, [], ◌∷◌, ◌++◌, slice_index_or, slice_set, bit_and, bit_or, Fits, w8, w32, w64, Bor, MutBor}
-use Rattle.ring.specs.Judging.{Permitted}
-use Rattle.ring.specs.Strands.{left_to}
-use Rattle.ring.specs.Answers.{is_key, as_key, key_marks_of}
+-- `ring::key_test::is_key` meets its contract: each return is the test that led there.
+use Rattle.std.proofs.Common.{sym, ◌∙◌}
+use Rattle.ring.proofs.KeyTests.{test_more, test_late, test_plain, test_strand, test_left}
 use Rattle.ring.proofs.key_test.is_key.Goals as goal
 
--- src/key_test.rt:37:9
 pub returns-then-f-letters : goal.returns-then-f-letters
-returns-then-f-letters c = ?
+returns-then-f-letters c = test_more _ _ _ _ c.requires _ _ c.first_run-f.ensures c.if-f-letters.true
 
--- src/key_test.rt:40:9
 pub returns-then-f-start : goal.returns-then-f-start
-returns-then-f-start c = ?
+returns-then-f-start c = test_late _ _ _ _ c.requires _ _ c.first_run-f.ensures c.if-f-letters.false c.if-f-start.true
 
--- src/key_test.rt:44:13
 pub returns-then-strand-gt1 : goal.returns-then-strand-gt1
-returns-then-strand-gt1 c = ?
+returns-then-strand-gt1 c =
+    let k = sym c.has_opposite.ensures ∙ c.if-has_opposite.true in
+    test_strand _ _ _ _ c.requires _ _ c.first_run-f.ensures c.if-f-letters.false c.if-f-start.false k c.if-strand-gt1.true
 
--- src/key_test.rt:46:9
 pub returns-then-has_opposite : goal.returns-then-has_opposite
-returns-then-has_opposite c = ?
+returns-then-has_opposite c =
+    let k = sym c.has_opposite.ensures ∙ c.if-has_opposite.true in
+    test_left _ _ _ _ c.requires _ _ c.first_run-f.ensures c.if-f-letters.false c.if-f-start.false k c.if-strand-gt1.false _ c.left_to.ensures
 
--- src/key_test.rt:30:1
 pub returns : goal.returns
-returns c = ?
+returns c =
+    let k = sym c.has_opposite.ensures ∙ c.if-has_opposite.false in
+    test_plain _ _ _ _ c.requires _ _ c.first_run-f.ensures c.if-f-letters.false c.if-f-start.false k

@@ -1,25 +1,23 @@
-use Rattle.std.proofs.Common.{rules, ◌≡◌, ◌<◌, length, ℕ, ◌+◌, ◌-◌, ◌*◌, ◌≤◌, ◌/◌, ◌%◌, Bool, true, false, nat_eq, nat_lt, List, [], ◌∷◌, ◌++◌, slice_index_or, slice_set, bit_and, bit_or, Fits, w8, w32, w64, Bor, MutBor}
-use Rattle.ring.specs.Judging.{Permitted}
-use Rattle.ring.specs.Strands.{left_to}
-use Rattle.ring.specs.Answers.{is_key, as_key, key_marks_of}
+-- `ring::key_test::judge_key` meets its contract: each return is the rule whose test led there.
+use Rattle.std.proofs.Common.{sym, ◌∙◌, ap}
+use Rattle.ring.specs.Judging.{taken}
+use Rattle.ring.proofs.Judging.{not_taken}
+use Rattle.ring.proofs.Exactly.{taken_permitted}
+use Rattle.ring.proofs.AsKey.{key_refused, key_not, key_short, key-taken}
 use Rattle.ring.proofs.key_test.judge_key.Goals as goal
 
--- src/key_test.rt:57:9
 pub returns-in_default : goal.returns-in_default
-returns-in_default c = ?
+returns-in_default c =
+    let v = c.judge-v.ensures in v ∙ sym (key_refused _ _ _ _ _ (ap taken (sym v) ∙ not_taken c.judge-v.result c.in_default.not-Taken))
 
--- src/key_test.rt:59:9
 pub is_key-requires : goal.is_key-requires
-is_key-requires c = ?
+is_key-requires c = (taken_permitted _ _ _ (sym c.judge-v.ensures ∙ c.in-Taken.is)).0
 
--- src/key_test.rt:60:9
 pub returns-then-not-is_key : goal.returns-then-not-is_key
-returns-then-not-is_key c = ?
+returns-then-not-is_key c = sym (key_not _ _ _ _ _ (taken_permitted _ _ _ (sym c.judge-v.ensures ∙ c.in-Taken.is)).0 (sym c.is_key.ensures ∙ c.if-not-is_key.true))
 
--- src/key_test.rt:63:9
 pub returns-then-short : goal.returns-then-short
-returns-then-short c = ?
+returns-then-short c = sym (key_short _ _ _ _ _ (taken_permitted _ _ _ (sym c.judge-v.ensures ∙ c.in-Taken.is)).0 (sym c.is_key.ensures ∙ c.if-not-is_key.false) c.if-short.true)
 
--- src/key_test.rt:52:1
 pub returns : goal.returns
-returns c = ?
+returns c = sym (key-taken _ _ _ _ _ (taken_permitted _ _ _ (sym c.judge-v.ensures ∙ c.in-Taken.is)).0 (sym c.is_key.ensures ∙ c.if-not-is_key.false) c.if-short.false)

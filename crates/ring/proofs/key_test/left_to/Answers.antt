@@ -1,21 +1,16 @@
-use Rattle.std.proofs.Common.{rules, ◌≡◌, ◌<◌, length, ℕ, ◌+◌, ◌-◌, ◌*◌, ◌≤◌, ◌/◌, ◌%◌, Bool, true, false, nat_eq, nat_lt, List, [], ◌∷◌, ◌++◌, slice_index_or, slice_set, bit_and, bit_or, Fits, w8, w32, w64, Bor, MutBor}
-use Rattle.ring.specs.Judging.{Permitted}
-use Rattle.ring.specs.Strands.{left_to}
-use Rattle.ring.specs.Answers.{is_key, as_key, key_marks_of}
+-- `ring::key_test::left_to` meets its contract.
+use Rattle.std.proofs.Common.{refl}
+use Rattle.ring.proofs.Marks.{found_within, left_other, left_own}
 use Rattle.ring.proofs.key_test.left_to.Goals as goal
 
--- src/key_test.rt:24:9
 pub lower-requires : goal.lower-requires
-lower-requires c = ?
+lower-requires c = (c.facing_table-facing.ensures, c.requires, found_within 1 _ _ c.start_of-b.ensures c.requires, refl)
 
--- src/key_test.rt:24:9
 pub returns-then-strand-eq1 : goal.returns-then-strand-eq1
-returns-then-strand-eq1 c = ?
+returns-then-strand-eq1 c = left_other _ _ _ c.start_of-b.ensures _ c.if-strand-eq1.true c.lower.ensures
 
--- src/key_test.rt:26:6
 pub lower-requires-2 : goal.lower-requires-2
-lower-requires-2 c = ?
+lower-requires-2 c = (c.facing_table-facing.ensures, found_within 1 _ _ c.start_of-b.ensures c.requires, c.requires, refl)
 
--- src/key_test.rt:17:1
 pub returns : goal.returns
-returns c = ?
+returns c = left_own _ _ _ c.start_of-b.ensures _ c.if-strand-eq1.false c.lower-2.ensures

@@ -1,19 +1,32 @@
-use Rattle.std.proofs.Common.{rules, ◌≡◌, cond, length, ℕ, ◌+◌, ◌-◌, ◌*◌, ◌<◌, ◌≤◌, ◌/◌, ◌%◌, Bool, true, false, nat_eq, nat_lt, List, [], ◌∷◌, ◌++◌, slice_index_or, slice_set, bit_and, bit_or, Fits, w8, w32, w64, Bor, MutBor}
-use Rattle.ring.specs.Answers.{rooms_short, keyed_of, first_room, second_room, key_part, in_second}
+-- `ring::keys::key` meets its contract: a part of the room that the strand names.
+use Rattle.ring.specs.Calls.{WriteKeyCall}
+use Rattle.ring.proofs.KeyPart.{first_part, second_part}
 use Rattle.ring.proofs.keys.key.Goals as goal
 
--- src/keys.rt:55:9
 pub slice_bounds-result-end : goal.slice_bounds-result-end
-slice_bounds-result-end c = ?
+slice_bounds-result-end c =
+    let r = c.args in
+    let w : WriteKeyCall r.ring.now r.kind r.first.now r.second.now c.write_key-m.result c.write_key-m.new.first c.write_key-m.new.second =
+    record { answer = c.write_key-m.ensures.value; front = c.write_key-m.ensures.first_after; back = c.write_key-m.ensures.second_after } in
+    (second_part _ _ _ _ _ _ _ w c.if-m-eq1.true).size
 
--- src/keys.rt:55:9
 pub returns-then-m-eq1-clause-result_value : goal.returns-then-m-eq1-clause-result_value
-returns-then-m-eq1-clause-result_value c = ?
+returns-then-m-eq1-clause-result_value c =
+    let r = c.args in
+    let w : WriteKeyCall r.ring.now r.kind r.first.now r.second.now c.write_key-m.result c.write_key-m.new.first c.write_key-m.new.second =
+    record { answer = c.write_key-m.ensures.value; front = c.write_key-m.ensures.first_after; back = c.write_key-m.ensures.second_after } in
+    (second_part _ _ _ _ _ _ _ w c.if-m-eq1.true).is
 
--- src/keys.rt:57:5
 pub slice_bounds-result-end-2 : goal.slice_bounds-result-end-2
-slice_bounds-result-end-2 c = ?
+slice_bounds-result-end-2 c =
+    let r = c.args in
+    let w : WriteKeyCall r.ring.now r.kind r.first.now r.second.now c.write_key-m.result c.write_key-m.new.first c.write_key-m.new.second =
+    record { answer = c.write_key-m.ensures.value; front = c.write_key-m.ensures.first_after; back = c.write_key-m.ensures.second_after } in
+    (first_part _ _ _ _ _ _ _ w c.if-m-eq1.false).size
 
--- src/keys.rt:48:1
 pub returns-clause-result_value : goal.returns-clause-result_value
-returns-clause-result_value c = ?
+returns-clause-result_value c =
+    let r = c.args in
+    let w : WriteKeyCall r.ring.now r.kind r.first.now r.second.now c.write_key-m.result c.write_key-m.new.first c.write_key-m.new.second =
+    record { answer = c.write_key-m.ensures.value; front = c.write_key-m.ensures.first_after; back = c.write_key-m.ensures.second_after } in
+    (first_part _ _ _ _ _ _ _ w c.if-m-eq1.false).is

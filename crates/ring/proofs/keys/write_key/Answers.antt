@@ -1,41 +1,65 @@
-use Rattle.std.proofs.Common.{rules, ◌≡◌, cond, length, ℕ, ◌+◌, ◌-◌, ◌*◌, ◌<◌, ◌≤◌, ◌/◌, ◌%◌, Bool, true, false, nat_eq, nat_lt, List, [], ◌∷◌, ◌++◌, slice_index_or, slice_set, bit_and, bit_or, Fits, w8, w32, w64, Bor, MutBor}
-use Rattle.ring.specs.Answers.{rooms_short, keyed_of, first_room, second_room, key_part, in_second}
+-- `ring::keys::write_key` meets its contract.
+use Rattle.std.proofs.Common.{sym, ◌∙◌, ap, arith}
+use Rattle.ring.specs.declared.marking.Strands.{Strands}
+use Rattle.ring.proofs.Marks.{found_within, marked_start}
+use Rattle.ring.proofs.Keyed.{keyed_is, key_permitted, first_fits, second_fits, keyed_plain, keyed_stranded}
 use Rattle.ring.proofs.keys.write_key.Goals as goal
 
--- src/keys.rt:37:13
 pub read_strands-s-requires : goal.read_strands-s-requires
-read_strands-s-requires c = ?
+read_strands-s-requires c =
+    let t = sym (keyed_is _ _ _ _ _ _ c.short_rooms-short.ensures c.judge-v.ensures) ∙ c.in-Taken.is in
+    (key_permitted _ _ _ _ t).some
 
--- src/keys.rt:38:9
 pub put_reading-requires : goal.put_reading-requires
-put_reading-requires c = ?
+put_reading-requires c =
+    let t = sym (keyed_is _ _ _ _ _ _ c.short_rooms-short.ensures c.judge-v.ensures) ∙ c.in-Taken.is in
+    let a = found_within 0 _ _ (ap (λ (s : Strands). s.own) c.read_strands-s.ensures) (key_permitted _ _ _ _ t).some in
+    (omega arith, first_fits _ _ _ _ t)
 
--- src/keys.rt:39:9
 pub put_reading-requires-then-has_opposite : goal.put_reading-requires-then-has_opposite
-put_reading-requires-then-has_opposite c = ?
+put_reading-requires-then-has_opposite c =
+    let t = sym (keyed_is _ _ _ _ _ _ c.short_rooms-short.ensures c.judge-v.ensures) ∙ c.in-Taken.is in
+    let b = found_within 1 _ _ (ap (λ (s : Strands). s.other) c.read_strands-s.ensures) (key_permitted _ _ _ _ t).some in
+    (omega arith, second_fits _ _ _ _ t (sym c.has_opposite.ensures ∙ c.if-has_opposite.true))
 
--- src/keys.rt:40:9
 pub returns-then-has_opposite-clause-value : goal.returns-then-has_opposite-clause-value
-returns-then-has_opposite-clause-value c = ?
+returns-then-has_opposite-clause-value c =
+    let r = c.args in
+    let t = sym (keyed_is r.kind r.ring.now _ _ _ _ c.short_rooms-short.ensures c.judge-v.ensures) ∙ c.in-Taken.is in
+    let k = keyed_stranded r.kind r.ring.now r.first.now r.second.now t (sym c.has_opposite.ensures ∙ c.if-has_opposite.true) _ _ _ _
+    c.read_strands-s.ensures c.chosen.ensures c.put_reading.ensures c.put_reading-then-has_opposite.ensures in
+    k.answer
 
--- src/keys.rt:40:9
-pub returns-then-has_opposite-clause-first_after :
-    goal.returns-then-has_opposite-clause-first_after
-returns-then-has_opposite-clause-first_after c = ?
+pub returns-then-has_opposite-clause-first_after : goal.returns-then-has_opposite-clause-first_after
+returns-then-has_opposite-clause-first_after c =
+    let r = c.args in
+    let t = sym (keyed_is r.kind r.ring.now _ _ _ _ c.short_rooms-short.ensures c.judge-v.ensures) ∙ c.in-Taken.is in
+    let k = keyed_stranded r.kind r.ring.now r.first.now r.second.now t (sym c.has_opposite.ensures ∙ c.if-has_opposite.true) _ _ _ _
+    c.read_strands-s.ensures c.chosen.ensures c.put_reading.ensures c.put_reading-then-has_opposite.ensures in
+    k.front
 
--- src/keys.rt:40:9
-pub returns-then-has_opposite-clause-second_after :
-    goal.returns-then-has_opposite-clause-second_after
-returns-then-has_opposite-clause-second_after c = ?
+pub returns-then-has_opposite-clause-second_after : goal.returns-then-has_opposite-clause-second_after
+returns-then-has_opposite-clause-second_after c =
+    let r = c.args in
+    let t = sym (keyed_is r.kind r.ring.now _ _ _ _ c.short_rooms-short.ensures c.judge-v.ensures) ∙ c.in-Taken.is in
+    let k = keyed_stranded r.kind r.ring.now r.first.now r.second.now t (sym c.has_opposite.ensures ∙ c.if-has_opposite.true) _ _ _ _
+    c.read_strands-s.ensures c.chosen.ensures c.put_reading.ensures c.put_reading-then-has_opposite.ensures in
+    k.back
 
--- src/keys.rt:42:9
 pub marks_of-m-requires : goal.marks_of-m-requires
-marks_of-m-requires c = ?
+marks_of-m-requires c =
+    let t = sym (keyed_is _ _ _ _ _ _ c.short_rooms-short.ensures c.judge-v.ensures) ∙ c.in-Taken.is in
+    (key_permitted _ _ _ _ t).some
 
--- src/keys.rt:43:5
 pub put_reading-requires-2 : goal.put_reading-requires-2
-put_reading-requires-2 c = ?
+put_reading-requires-2 c =
+    let t = sym (keyed_is _ _ _ _ _ _ c.short_rooms-short.ensures c.judge-v.ensures) ∙ c.in-Taken.is in
+    let a = marked_start _ _ _ c.marks_of-m.ensures (key_permitted _ _ _ _ t).some in
+    (omega arith, first_fits _ _ _ _ t)
 
--- src/keys.rt:25:1
 pub returns-clause-first_after : goal.returns-clause-first_after
-returns-clause-first_after c = ?
+returns-clause-first_after c =
+    let r = c.args in
+    let t = sym (keyed_is r.kind r.ring.now _ _ _ _ c.short_rooms-short.ensures c.judge-v.ensures) ∙ c.in-Taken.is in
+    let k = keyed_plain r.kind r.ring.now r.first.now r.second.now t (sym c.has_opposite.ensures ∙ c.if-has_opposite.false) _ _ c.marks_of-m.ensures c.put_reading-2.ensures in
+    k.front

@@ -1,5 +1,4 @@
 -- `ring::kind::has_opposite` meets its contract.
-use Rattle.std.proofs.Common.{◌≡◌, ℕ, ◌+◌, ◌-◌, ◌*◌, ◌<◌, ◌≤◌, Bool, true, false, List, [], ◌∷◌, ◌++◌, length, take, drop, get_or, refl, sym, ◌∙◌, ap, arith, rules}
 use Rattle.words.specs.Keys.Kind.{stranded}
 use Rattle.std.proofs.lemmas.Bool.{ne_eqb}
 use Rattle.ring.proofs.kind.has_opposite.Goals as goal

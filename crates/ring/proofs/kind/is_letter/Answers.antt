@@ -1,5 +1,4 @@
 -- `ring::kind::is_letter` meets its contract.
-use Rattle.std.proofs.Common.{◌≡◌, ℕ, ◌+◌, ◌-◌, ◌*◌, ◌<◌, ◌≤◌, Bool, true, false, List, [], ◌∷◌, ◌++◌, length, take, drop, get_or, refl, sym, ◌∙◌, ap, arith, rules}
 use Rattle.ring.proofs.Letters.{base-told, iupac_told}
 use Rattle.std.proofs.lemmas.Bool.{ne_eqb}
 use Rattle.ring.proofs.kind.is_letter.Goals as goal

@@ -1,5 +1,5 @@
 -- `ring::kind::letter_table` meets its contract, by computation.
-use Rattle.std.proofs.Common.{◌≡◌, ℕ, ◌+◌, ◌-◌, ◌*◌, ◌<◌, ◌≤◌, Bool, true, false, List, [], ◌∷◌, ◌++◌, length, take, drop, get_or, refl, sym, ◌∙◌, ap, arith, rules}
+use Rattle.std.proofs.Common.{refl}
 use Rattle.words.specs.Keys.Letter.{is_iupac}
 use Rattle.ring.specs.Letters.{letter_bits, letter_table}
 use Rattle.ring.proofs.kind.letter_table.Goals as goal

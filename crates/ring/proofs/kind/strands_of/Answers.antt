@@ -1,5 +1,5 @@
 -- `ring::kind::strands_of` meets its contract.
-use Rattle.std.proofs.Common.{◌≡◌, ℕ, ◌+◌, ◌-◌, ◌*◌, ◌<◌, ◌≤◌, Bool, true, false, List, [], ◌∷◌, ◌++◌, length, take, drop, get_or, refl, sym, ◌∙◌, ap, arith, rules}
+use Rattle.std.proofs.Common.{sym, ◌∙◌}
 use Rattle.words.proofs.Keys.Kind.{strands_none, strands_both, strands_own}
 use Rattle.ring.proofs.kind.strands_of.Goals as goal
 

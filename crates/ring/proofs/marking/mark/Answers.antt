@@ -1,9 +1,7 @@
-use Rattle.std.proofs.Common.{rules, ◌≡◌, ◌<◌, length, ℕ, ◌+◌, ◌-◌, ◌*◌, ◌≤◌, ◌/◌, ◌%◌, Bool, true, false, nat_eq, nat_lt, List, [], ◌∷◌, ◌++◌, slice_index_or, slice_set, bit_and, bit_or, Fits, w8, w32, w64, Bor, MutBor}
-use Rattle.words.specs.Keys.Strand.{key_start, strand}
-use Rattle.ring.specs.Strands.{both_strands, marked_on, refused_by}
-use Rattle.ring.specs.Answers.{done_with, refusal_of, marked_of, lettered_of, lettered_room}
+-- `ring::marking::mark` meets its contract.
+use Rattle.std.proofs.Common.{sym, ◌∙◌}
+use Rattle.ring.proofs.Exactly.{taken_permitted}
 use Rattle.ring.proofs.marking.mark.Goals as goal
 
--- src/marking.rt:108:5
 pub marks_of-requires : goal.marks_of-requires
-marks_of-requires c = ?
+marks_of-requires c = (taken_permitted _ _ _ (sym c.judge-v.ensures ∙ c.in-Taken.is)).0.some

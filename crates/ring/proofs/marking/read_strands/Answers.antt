@@ -1,17 +1,20 @@
-use Rattle.std.proofs.Common.{rules, ◌≡◌, ◌<◌, length, ℕ, ◌+◌, ◌-◌, ◌*◌, ◌≤◌, ◌/◌, ◌%◌, Bool, true, false, nat_eq, nat_lt, List, [], ◌∷◌, ◌++◌, slice_index_or, slice_set, bit_and, bit_or, Fits, w8, w32, w64, Bor, MutBor}
-use Rattle.words.specs.Keys.Strand.{key_start, strand}
-use Rattle.ring.specs.Strands.{both_strands, marked_on, refused_by}
-use Rattle.ring.specs.Answers.{done_with, refusal_of, marked_of, lettered_of, lettered_room}
+-- `ring::marking::read_strands` meets its contract.
+use Rattle.std.proofs.Common.{true, false, refl, sym, ◌∙◌}
+use Rattle.ring.proofs.Marks.{found_within, strands_by}
 use Rattle.ring.proofs.marking.read_strands.Goals as goal
 
--- src/marking.rt:30:8
 pub lower-requires : goal.lower-requires
-lower-requires c = ?
+lower-requires c = (
+  c.facing_table-facing.ensures,
+  found_within 1 _ _ c.start_of-b.ensures c.requires,
+  found_within 0 _ _ c.start_of-a.ensures c.requires,
+  refl,
+)
 
--- src/marking.rt:31:9
 pub returns-then-lower : goal.returns-then-lower
-returns-then-lower c = ?
+returns-then-lower c =
+    strands_by _ _ _ c.start_of-a.ensures c.start_of-b.ensures true 1 (sym c.if-lower.true ∙ c.lower.ensures) refl
 
--- src/marking.rt:23:1
 pub returns : goal.returns
-returns c = ?
+returns c =
+    strands_by _ _ _ c.start_of-a.ensures c.start_of-b.ensures false 0 (sym c.if-lower.false ∙ c.lower.ensures) refl

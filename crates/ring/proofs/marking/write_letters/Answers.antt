@@ -1,17 +1,21 @@
-use Rattle.std.proofs.Common.{rules, ◌≡◌, ◌<◌, length, ℕ, ◌+◌, ◌-◌, ◌*◌, ◌≤◌, ◌/◌, ◌%◌, Bool, true, false, nat_eq, nat_lt, List, [], ◌∷◌, ◌++◌, slice_index_or, slice_set, bit_and, bit_or, Fits, w8, w32, w64, Bor, MutBor}
-use Rattle.words.specs.Keys.Strand.{key_start, strand}
-use Rattle.ring.specs.Strands.{both_strands, marked_on, refused_by}
-use Rattle.ring.specs.Answers.{done_with, refusal_of, marked_of, lettered_of, lettered_room}
+-- `ring::marking::write_letters` meets its contract: the key is the reading at its start, on its strand.
+use Rattle.std.proofs.Common.{sym, ◌∙◌, arith}
+use Rattle.words.specs.Keys.Strand.{key}
+use Rattle.ring.proofs.Exactly.{taken_permitted}
+use Rattle.ring.proofs.Marks.{marked_start, marked_key, room_done}
+use borrow.Author.Tests.{ltb-false}
 use Rattle.ring.proofs.marking.write_letters.Goals as goal
 
--- src/marking.rt:120:9
 pub marks_of-m-requires : goal.marks_of-m-requires
-marks_of-m-requires c = ?
+marks_of-m-requires c = (taken_permitted _ _ _ (sym c.judge-v.ensures ∙ c.in-Taken.is)).0.some
 
--- src/marking.rt:121:5
 pub put_reading-requires : goal.put_reading-requires
-put_reading-requires c = ?
+put_reading-requires c =
+    let t = taken_permitted _ _ _ (sym c.judge-v.ensures ∙ c.in-Taken.is) in
+    (omega (arith, marked_start _ _ _ c.marks_of-m.ensures t.0.some), ltb-false _ _ t.1)
 
--- src/marking.rt:112:1
 pub returns-clause-room_after : goal.returns-clause-room_after
-returns-clause-room_after c = ?
+returns-clause-room_after c =
+    let r = c.args in
+    let e = sym c.judge-v.ensures ∙ c.in-Taken.is in
+    c.put_reading.ensures ∙ rw (marked_key r.kind r.ring.now _ c.marks_of-m.ensures) (room_done _ e (key r.kind r.ring.now) r.room.now)

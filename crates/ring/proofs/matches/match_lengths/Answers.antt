@@ -1,8 +1,14 @@
-use Rattle.std.proofs.Common.{rules, ◌<◌, ◌≤◌, length, ◌≡◌, ℕ, ◌+◌, ◌-◌, ◌*◌, ◌/◌, ◌%◌, Bool, true, false, nat_eq, nat_lt, List, [], ◌∷◌, ◌++◌, slice_index_or, slice_set, bit_and, bit_or, Fits, w8, w32, w64, Bor, MutBor}
-use Rattle.words.specs.Repeats.Match.{Match, MatchLength, MatchTable, Kept}
-use Rattle.ring.specs.Judging.{most}
+-- `matches::match_lengths` meets its contract. The invariant is the box of `Rattle.words.proofs.Repeats.Match`.
+use Rattle.std.proofs.Common.{rules}
+use Rattle.words.proofs.Repeats.Match.{box_new, box_old}
+use Rattle.ring.proofs.matches.match_lengths.Goals.{then-r-k, else-r-k}
 use Rattle.ring.proofs.matches.match_lengths.Goals as goal
 
--- src/matches.rt:38:5
 pub loop-k-preserved : goal.loop-k-preserved
-loop-k-preserved c = ?
+loop-k-preserved c =
+    let g = c.loop-k.invariant in
+    let z = c.extend-z.ensures in
+    elim c.if-r-k.branch [
+      | then-r-k w ↦ rw (w.l-is, w.r-is) (box_new _ _ _ _ _ _ g (search rules) _ z)
+      | else-r-k w ↦ rw (w.l-is, w.r-is) (box_old _ _ _ _ _ _ g (search rules) _ z)
+    ]

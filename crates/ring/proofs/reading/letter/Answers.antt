@@ -1,5 +1,5 @@
 -- `ring::reading::letter` meets its contract: below n the letter itself, from n on the one n places back.
-use Rattle.std.proofs.Common.{◌≡◌, ℕ, ◌+◌, ◌-◌, ◌*◌, ◌<◌, ◌≤◌, Bool, true, false, List, [], ◌∷◌, ◌++◌, length, take, drop, get_or, refl, sym, ◌∙◌, ap, arith, rules}
+use Rattle.std.proofs.Common.{sym, ◌∙◌}
 use Rattle.ring.proofs.OnStrand.{around_near, around_far}
 use Rattle.ring.proofs.reading.letter.Goals as goal
 

@@ -1,5 +1,5 @@
 -- `ring::reading::lower` meets its contract: the first differing pair decides.
-use Rattle.std.proofs.Common.{◌≡◌, ℕ, ◌+◌, ◌-◌, ◌*◌, ◌<◌, ◌≤◌, Bool, true, false, List, [], ◌∷◌, ◌++◌, length, take, drop, get_or, refl, sym, ◌∙◌, ap, arith, rules}
+use Rattle.std.proofs.Common.{arith, rules}
 use Rattle.ring.proofs.OnStrand.{lower_at, lower_same}
 use Rattle.ring.proofs.reading.lower.Goals as goal
 

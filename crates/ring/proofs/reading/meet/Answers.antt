@@ -1,7 +1,5 @@
 -- `ring::reading::meet` meets its contract: the letters agree up to k.
-use Rattle.std.proofs.Common.{◌≡◌, ℕ, ◌+◌, ◌-◌, ◌*◌, ◌<◌, ◌≤◌, Bool, true, false, List, [], ◌∷◌, ◌++◌, length, take, drop, get_or, refl, sym, ◌∙◌, ap, arith, rules}
-use Rattle.words.specs.Duels.Paired.{Paired}
-use Rattle.words.specs.Keys.Strand.{on_strand}
+use Rattle.std.proofs.Common.{sym, ◌∙◌}
 use Rattle.ring.proofs.OnStrand.{met_all, met_differs}
 use Rattle.ring.proofs.reading.meet.Goals as goal
 

@@ -1,5 +1,5 @@
 -- `ring::reading::put_reading` meets its contract: the letters of the strand from `at` on, and behind them those before it.
-use Rattle.std.proofs.Common.{◌≡◌, ℕ, ◌+◌, ◌-◌, ◌*◌, ◌<◌, ◌≤◌, Bool, true, false, List, [], ◌∷◌, ◌++◌, length, take, drop, get_or, refl, sym, ◌∙◌, ap, arith, rules, length-take, length-drop}
+use Rattle.std.proofs.Common.{take, drop, arith, length-take, length-drop}
 use Rattle.words.specs.Rings.Ring.{reading}
 use Rattle.words.specs.Keys.Strand.{on_strand}
 use Rattle.words.proofs.Keys.Strand.{length-strand}

@@ -1,5 +1,5 @@
 -- `ring::reading::same_reading` meets its contract.
-use Rattle.std.proofs.Common.{◌≡◌, ℕ, ◌+◌, ◌-◌, ◌*◌, ◌<◌, ◌≤◌, Bool, true, false, List, [], ◌∷◌, ◌++◌, length, take, drop, get_or, refl, sym, ◌∙◌, ap, arith, rules}
+use Rattle.std.proofs.Common.{arith}
 use Rattle.ring.proofs.OnStrand.{same_met}
 use Rattle.ring.proofs.reading.same_reading.Goals as goal
 

@@ -1,7 +1,5 @@
 -- `ring::repeats::repeat` meets its contract.
-use Rattle.std.proofs.Common.{◌≡◌, ℕ, ◌+◌, ◌-◌, ◌*◌, ◌<◌, ◌≤◌, Bool, true, false, List, [], ◌∷◌, ◌++◌, length, take, drop, get_or, refl, sym, ◌∙◌, ap, arith, rules}
-use Rattle.ring.proofs.Judging.{not_taken}
-use Rattle.ring.proofs.Replies.{repeated_refused, repeated_done}
+use Rattle.std.proofs.Common.{sym, ◌∙◌}
 use Rattle.ring.proofs.Exactly.{taken_permitted}
 use Rattle.ring.proofs.repeats.repeat.Goals as goal
 

@@ -1,5 +1,5 @@
 -- `ring::repeats::repeat_of` meets its contract: each case is one of `Rattle.words.proofs.Repeats.Closing`.
-use Rattle.std.proofs.Common.{◌≡◌, ℕ, ◌+◌, ◌-◌, ◌*◌, ◌<◌, ◌≤◌, Bool, true, false, List, [], ◌∷◌, ◌++◌, length, take, drop, get_or, refl, sym, ◌∙◌, ap, arith, rules, length-drop}
+use Rattle.std.proofs.Common.{◌≡◌, ℕ, ◌+◌, ◌<◌, ◌≤◌, List, length, drop, sym, ◌∙◌, arith, length-drop}
 use Rattle.words.specs.Rings.Ring.{start}
 use Rattle.words.specs.Factors.Factor.{FirstRun}
 use Rattle.words.proofs.Rings.Ring.{start_is}

@@ -1,10 +1,9 @@
 -- `ring::start::start_run` meets its contract: `best` is the lowest of the runs' heads before m, the first of them if several are equal;
-use Rattle.std.proofs.Common.{◌≡◌, ℕ, ◌+◌, ◌-◌, ◌*◌, ◌<◌, ◌≤◌, Bool, true, false, List, [], ◌∷◌, ◌++◌, length, take, drop, get_or, refl, sym, ◌∙◌, ap, arith, rules, length-drop}
+use Rattle.std.proofs.Common.{◌≡◌, ℕ, ◌+◌, ◌≤◌, List, length, drop, refl, ◌∙◌, arith, rules, length-drop}
 use Rattle.words.specs.Factors.Factor.{FirstRun}
 use Rattle.words.specs.Keys.Strand.{on_strand}
-use Rattle.words.proofs.Order.Search.{either}
-use Rattle.words.proofs.Factors.Factor.{run_within, run_word, run_size}
-use Rattle.words.proofs.Factors.Run.{Best, best_none, best_next, best_last, best_below, BestRun, none, best_run_new, best_run_old, best_run_last}
+use Rattle.words.proofs.Factors.Factor.{run_within}
+use Rattle.words.proofs.Factors.Run.{best_none, best_next, best_last, best_below, none, best_run_new, best_run_old}
 use Rattle.words.proofs.Keys.Strand.{length-strand}
 use Rattle.ring.proofs.OnStrand.{length_back}
 use Rattle.ring.proofs.start.start_run.Goals.{then-best-m, else-best-m}
@@ -43,7 +42,7 @@ loop-m-preserved c =
       run_fits _ _ _ _ _ i.1 i.2 r,
       rw e b,
       elim c.if-best-m.branch [
-        then-best-m w ↦ rw (w.size-is, w.end-is) (best_run_new _ _ _ _ _ _ r w.if-best-m.true)
+        | then-best-m w ↦ rw (w.size-is, w.end-is) (best_run_new _ _ _ _ _ _ r w.if-best-m.true)
         | else-best-m w ↦ rw (w.size-is, w.end-is, e) (best_run_old _ _ _ _ _ _ i.4 (λ q. w.if-best-m.false (e ∙ q)))
       ],
     )

@@ -1,28 +1,29 @@
-use Rattle.std.proofs.Common.{rules, ◌≡◌, ◌++◌, ◌+◌, ◌-◌, ◌<◌, ◌≤◌, length, take, drop, get_or, ℕ, ◌*◌, ◌/◌, ◌%◌, Bool, true, false, nat_eq, nat_lt, List, [], ◌∷◌, slice_set, bit_and, bit_or, Fits, w8, w32, w64, Bor, MutBor}
-use Rattle.words.specs.Suffixes.Prefix.{start_table}
-use Rattle.words.specs.Repeats.Match.{MatchTable, Kept}
-use Rattle.words.specs.Suffixes.Block.{Head, Block}
-use Rattle.ring.specs.Answers.{filled_of, starts_table}
-use Rattle.words.specs.Starts.Tick.{Flagged, untick, Judged, Outside, Fresh, Ticking, Ticked, Done}
+-- `start_table::fill_starts` meets its contract. The invariant: the blocks from c on are filled, and the heads before c flagged.
+use Rattle.std.proofs.Common.{arith, rules}
+use Rattle.words.proofs.Repeats.Match.{kept_on}
+use Rattle.words.proofs.Starts.StartFill.{done_on}
+use Rattle.words.proofs.Starts.StartTable.{turned_within, turned_head, turned_all}
 use Rattle.ring.specs.Judging.{most}
 use Rattle.ring.proofs.start_table.fill_starts.Goals as goal
 
--- src/start_table.rt:129:20
 pub offset_bounds-t-c : goal.offset_bounds-t-c
-offset_bounds-t-c c = ?
+offset_bounds-t-c c = omega (arith, turned_within most _ _ _ _ c.loop-c.invariant.0)
 
--- src/start_table.rt:129:20
 pub bounds-t-c : goal.bounds-t-c
-bounds-t-c c = ?
+bounds-t-c c = let i = c.loop-c.invariant in omega (arith, turned_within most _ _ _ _ i.0)
 
--- src/start_table.rt:130:17
 pub tick-end-requires-clause-head : goal.tick-end-requires-clause-head
-tick-end-requires-clause-head c = ?
+tick-end-requires-clause-head c =
+    let i = c.loop-c.invariant in
+    let a = turned_head most _ _ _ _ i.0 c.loop-c-test.true (search rules) c.if-t-c-ge-HEAD.true in (a.head, a.fresh)
 
--- src/start_table.rt:127:5
 pub loop-c-preserved-then-t-c-ge-HEAD : goal.loop-c-preserved-then-t-c-ge-HEAD
-loop-c-preserved-then-t-c-ge-HEAD c = ?
+loop-c-preserved-then-t-c-ge-HEAD c =
+    let i = c.loop-c.invariant in
+    let a = turned_head most _ _ _ _ i.0 c.loop-c-test.true (search rules) c.if-t-c-ge-HEAD.true in
+    let g = a.step _ _ (done_on _ _ _ _ _ _ c.tick-end.ensures.1 c.resolve.ensures) in
+    (g, omega (arith, g.kept.size, i.0.kept.size, i.1))
 
--- src/start_table.rt:120:1
 pub returns : goal.returns
-returns c = ?
+returns c =
+    turned_all most _ _ _ _ _ c.loop-c.invariant.0 c.loop-c-test.false (kept_on _ _ _ _ c.match_lengths.ensures.1 c.flag_heads.ensures.1) (search rules)

@@ -1,28 +1,31 @@
-use Rattle.std.proofs.Common.{rules, ◌≡◌, ◌++◌, ◌+◌, ◌-◌, ◌<◌, ◌≤◌, length, take, drop, get_or, ℕ, ◌*◌, ◌/◌, ◌%◌, Bool, true, false, nat_eq, nat_lt, List, [], ◌∷◌, slice_set, bit_and, bit_or, Fits, w8, w32, w64, Bor, MutBor}
-use Rattle.words.specs.Suffixes.Prefix.{start_table}
-use Rattle.words.specs.Repeats.Match.{MatchTable, Kept}
-use Rattle.words.specs.Suffixes.Block.{Head, Block}
-use Rattle.ring.specs.Answers.{filled_of, starts_table}
-use Rattle.words.specs.Starts.Tick.{Flagged, untick, Judged, Outside, Fresh, Ticking, Ticked, Done}
+-- `start_table::flag_heads` meets its contract. The invariant: the heads so far are flagged.
+use Rattle.std.proofs.Common.{◌≡◌, ℕ, ◌-◌, List, length, take, drop, arith, rules, length-drop}
+use lib.Seq.{take_all}
+use Rattle.words.specs.Factors.Factor.{FirstRun}
+use Rattle.words.proofs.Factors.Factor.{run_within}
+use Rattle.words.proofs.Starts.StartTable.{flagging_none, flagging_next, flagged_head, run_some}
 use Rattle.ring.specs.Judging.{most}
 use Rattle.ring.proofs.start_table.flag_heads.Goals as goal
 
--- src/start_table.rt:30:5
+whole : (w : List ℕ) (m p e : ℕ) → FirstRun (take (length w - m) (drop m w)) p e → FirstRun (drop m w) p e
+whole w m p e r = rw (take_all (length w - m) (drop m w) (omega (arith, length-drop m w))) at r
+
 pub loop-m-init : goal.loop-m-init
-loop-m-init c = ?
+loop-m-init c = flagging_none most _ _
 
--- src/start_table.rt:33:9
 pub overflow_add-m : goal.overflow_add-m
-overflow_add-m c = ?
+overflow_add-m c =
+    omega (arith, run_within _ _ _ (whole c.args.w.now _ _ _ c.first_run-run.ensures), length-drop c.loop-m.m c.args.w.now)
 
--- src/start_table.rt:30:5
 pub loop-m-smaller : goal.loop-m-smaller
-loop-m-smaller c = ?
+loop-m-smaller c = omega (arith, run_some _ _ _ c.first_run-run.ensures)
 
--- src/start_table.rt:30:5
 pub loop-m-preserved : goal.loop-m-preserved
-loop-m-preserved c = ?
+loop-m-preserved c =
+    let r = c.requires in
+    flagging_next most _ _ _ _ r.2 r.0 (search rules) c.loop-m.invariant r.1 _ _ (whole c.args.w.now _ _ _ c.first_run-run.ensures)
 
--- src/start_table.rt:24:1
 pub returns : goal.returns
-returns c = ?
+returns c =
+    let i = c.loop-m.invariant in
+    let e : c.loop-m.m ≡ length c.args.w.now = omega (arith, (flagged_head i.flags).within) in (rw e at i.flags, i.kept)

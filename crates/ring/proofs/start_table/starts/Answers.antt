@@ -1,12 +1,9 @@
-use Rattle.std.proofs.Common.{rules, ◌≡◌, ◌++◌, ◌+◌, ◌-◌, ◌<◌, ◌≤◌, length, take, drop, get_or, ℕ, ◌*◌, ◌/◌, ◌%◌, Bool, true, false, nat_eq, nat_lt, List, [], ◌∷◌, slice_set, bit_and, bit_or, Fits, w8, w32, w64, Bor, MutBor}
-use Rattle.words.specs.Suffixes.Prefix.{start_table}
-use Rattle.words.specs.Repeats.Match.{MatchTable, Kept}
-use Rattle.words.specs.Suffixes.Block.{Head, Block}
-use Rattle.ring.specs.Answers.{filled_of, starts_table}
-use Rattle.words.specs.Starts.Tick.{Flagged, untick, Judged, Outside, Fresh, Ticking, Ticked, Done}
-use Rattle.ring.specs.Judging.{most}
+-- `ring::start_table::starts` meets its contract.
+use Rattle.std.proofs.Common.{sym, ◌∙◌}
+use Rattle.ring.proofs.Exactly.{taken_permitted}
+use borrow.Author.Tests.{ltb-false}
 use Rattle.ring.proofs.start_table.starts.Goals as goal
 
--- src/start_table.rt:145:5
 pub fill_starts-requires : goal.fill_starts-requires
-fill_starts-requires c = ?
+fill_starts-requires c =
+    let f = taken_permitted _ _ _ (sym c.judge-v.ensures ∙ c.in-Taken.is) in (f.0.some, f.0.within, ltb-false _ _ f.1)

@@ -1,20 +1,29 @@
-use Rattle.std.proofs.Common.{rules, ◌≡◌, ◌++◌, ◌+◌, ◌-◌, ◌<◌, ◌≤◌, length, take, drop, get_or, ℕ, ◌*◌, ◌/◌, ◌%◌, Bool, true, false, nat_eq, nat_lt, List, [], ◌∷◌, slice_set, bit_and, bit_or, Fits, w8, w32, w64, Bor, MutBor}
-use Rattle.words.specs.Suffixes.Prefix.{start_table}
-use Rattle.words.specs.Repeats.Match.{MatchTable, Kept}
-use Rattle.words.specs.Suffixes.Block.{Head, Block}
-use Rattle.ring.specs.Answers.{filled_of, starts_table}
-use Rattle.words.specs.Starts.Tick.{Flagged, untick, Judged, Outside, Fresh, Ticking, Ticked, Done}
+-- `start_table::tick` meets its contract. The invariant: the entries so far are ticked.
+use Rattle.std.proofs.Common.{arith, length-set}
+use Rattle.words.proofs.Suffixes.Fill.{block_greater, block_equal}
+use Rattle.words.proofs.Starts.StartTick.{outside_none, outside_more, ticking_first, ticking_more, judged_new}
 use Rattle.ring.specs.Judging.{most}
+use Rattle.ring.proofs.start_table.tick.Goals.{then-w-l-2, else-w-l-2}
 use Rattle.ring.proofs.start_table.tick.Goals as goal
 
--- src/start_table.rt:83:5
 pub loop-l-init : goal.loop-l-init
-loop-l-init c = ?
+loop-l-init c =
+    let m = c.requires.m_in_bounds in
+    (ticking_first most _ _ _ c.requires.head.0 m.0 (omega arith) c.requires.head.1, outside_none _ _ _, rw length-set m.2)
 
--- src/start_table.rt:91:13
 pub tick_for-a-requires-clause-ticking : goal.tick_for-a-requires-clause-ticking
-tick_for-a-requires-clause-ticking c = ?
+tick_for-a-requires-clause-ticking c =
+    let i = c.loop-l.invariant in (i.0, block_equal _ _ _ _ i.0.block c.loop-l-test.true (omega arith))
 
--- src/start_table.rt:83:5
 pub loop-l-preserved : goal.loop-l-preserved
-loop-l-preserved c = ?
+loop-l-preserved c =
+    let i = c.loop-l.invariant in
+    let g = i.0 in
+    let h = c.loop-l-test.true in (
+      elim c.if-w-l-2.branch [
+        | then-w-l-2 w ↦ let b = block_greater _ _ _ _ g.block h w.if-w-l-2.true in rw (w.p-is, w.a-is) (ticking_more most _ _ _ _ _ g h i.2 (omega arith) _ b _ (judged_new most _ _ _ _ _ g h b))
+        | else-w-l-2 w ↦ rw (w.p-is, w.a-is) (ticking_more most _ _ _ _ _ g h i.2 (omega arith) _ (block_equal _ _ _ _ g.block h (omega arith)) _ w.tick_for-a.ensures)
+      ],
+      outside_more _ _ _ _ _ i.1 (omega arith),
+      rw length-set i.2,
+    )

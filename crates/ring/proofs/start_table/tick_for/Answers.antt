@@ -1,36 +1,30 @@
-use Rattle.std.proofs.Common.{rules, ◌≡◌, ◌++◌, ◌+◌, ◌-◌, ◌<◌, ◌≤◌, length, take, drop, get_or, ℕ, ◌*◌, ◌/◌, ◌%◌, Bool, true, false, nat_eq, nat_lt, List, [], ◌∷◌, slice_set, bit_and, bit_or, Fits, w8, w32, w64, Bor, MutBor}
-use Rattle.words.specs.Suffixes.Prefix.{start_table}
-use Rattle.words.specs.Repeats.Match.{MatchTable, Kept}
-use Rattle.words.specs.Suffixes.Block.{Head, Block}
-use Rattle.ring.specs.Answers.{filled_of, starts_table}
-use Rattle.words.specs.Starts.Tick.{Flagged, untick, Judged, Outside, Fresh, Ticking, Ticked, Done}
+-- `start_table::tick_for` meets its contract: each way out is one of the tests of `Rattle.words.proofs.Starts.StartTick`.
+use Rattle.std.proofs.Common.{◌+◌, ◌-◌, get_or, sym, arith, rules}
+use Rattle.words.proofs.Starts.StartTick.{untick_le, judged_far, judged_far_not, judged_whole, judged_reach, judged_low, judged_high}
 use Rattle.ring.specs.Judging.{most}
 use Rattle.ring.proofs.start_table.tick_for.Goals as goal
 
--- src/start_table.rt:56:13
 pub returns-then-t-l-ge-TICK : goal.returns-then-t-l-ge-TICK
-returns-then-t-l-ge-TICK c = ?
+returns-then-t-l-ge-TICK c = judged_far most _ _ _ _ _ c.requires.ticking.0 c.requires.l_in_bounds.0 c.requires.ticking.1 c.if-p-l.true c.if-t-l-ge-TICK.true
 
--- src/start_table.rt:58:9
 pub returns-then-p-l : goal.returns-then-p-l
-returns-then-p-l c = ?
+returns-then-p-l c = judged_far_not most _ _ _ _ _ c.requires.ticking.0 c.requires.l_in_bounds.0 c.requires.ticking.1 c.if-p-l.true c.if-t-l-ge-TICK.false
 
--- src/start_table.rt:61:9
 pub returns-then-p-l-2 : goal.returns-then-p-l-2
-returns-then-p-l-2 c = ?
+returns-then-p-l-2 c = judged_whole most _ _ _ _ _ c.requires.ticking.0 c.requires.l_in_bounds.0 c.requires.ticking.1 c.if-p-l.false (sym c.if-p-l-2.true)
 
--- src/start_table.rt:64:13
 pub overflow_add-i-2 : goal.overflow_add-i-2
-overflow_add-i-2 c = ?
+overflow_add-i-2 c =
+    let i = c.args.l + 1 - c.args.p in
+    let f = c.type_inv.t i in omega (arith, c.unticked-z.ensures, untick_le most (get_or c.args.t.now i 0))
 
--- src/start_table.rt:66:9
 pub returns-then-m-p : goal.returns-then-m-p
-returns-then-m-p c = ?
+returns-then-m-p c = judged_reach most _ _ _ _ _ c.requires.ticking.0 c.requires.l_in_bounds.0 c.requires.ticking.1 c.if-p-l.false _ c.unticked-z.ensures (search rules) c.if-m-p.true
 
--- src/start_table.rt:69:9
 pub returns-then-w-i : goal.returns-then-w-i
-returns-then-w-i c = ?
+returns-then-w-i c =
+    judged_low most _ _ _ _ _ c.requires.ticking.0 c.requires.l_in_bounds.0 c.requires.ticking.1 c.if-p-l.false _ c.unticked-z.ensures (search rules) c.if-m-p.false c.if-w-i.true
 
--- src/start_table.rt:49:1
 pub returns : goal.returns
-returns c = ?
+returns c =
+    judged_high most _ _ _ _ _ c.requires.ticking.0 c.requires.l_in_bounds.0 c.requires.ticking.1 c.if-p-l.false _ c.unticked-z.ensures (search rules) c.if-m-p.false c.if-w-i.false

@@ -1,8 +1,6 @@
 -- `ring::strand::copy` meets its contract: the first i letters of the strand are written.
-use Rattle.std.proofs.Common.{◌≡◌, ℕ, ◌+◌, ◌-◌, ◌*◌, ◌<◌, ◌≤◌, Bool, true, false, List, [], ◌∷◌, ◌++◌, length, take, drop, get_or, refl, sym, ◌∙◌, ap, arith, rules}
-use Rattle.words.specs.Keys.Strand.{on_strand}
 use Rattle.words.proofs.Keys.Strand.{length-strand}
-use Rattle.ring.proofs.Laid.{Partly, partly_none, partly_one, partly_all}
+use Rattle.ring.proofs.Laid.{partly_none, partly_one, partly_all}
 use Rattle.ring.proofs.strand.copy.Goals as goal
 
 pub loop-i-init : goal.loop-i-init

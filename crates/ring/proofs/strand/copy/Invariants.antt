@@ -1,5 +1,5 @@
 -- `ring::strand::copy` meets its contract: the first i letters of the strand are written.
-use Rattle.std.proofs.Common.{◌≡◌, ◌-◌, length}
+use Rattle.std.proofs.Common.{◌-◌}
 use Rattle.words.specs.Keys.Strand.{on_strand}
 use Rattle.ring.proofs.Laid.{Partly}
 use Rattle.ring.proofs.strand.copy.Given as goal

@@ -1,6 +1,5 @@
 -- `ring::strand::front_of` meets its contract: what faces the last m letters, or the letters before m.
-use Rattle.std.proofs.Common.{◌≡◌, ℕ, ◌+◌, ◌-◌, ◌*◌, ◌<◌, ◌≤◌, Bool, true, false, List, [], ◌∷◌, ◌++◌, length, take, drop, get_or, refl, sym, ◌∙◌, ap, arith, rules}
-use Rattle.ring.proofs.OnStrand.{front_opposite, front_own}
+use Rattle.ring.proofs.OnStrand.{front_opposite}
 use Rattle.ring.proofs.strand.front_of.Goals as goal
 
 pub returns-then-strand-eq1 : goal.returns-then-strand-eq1

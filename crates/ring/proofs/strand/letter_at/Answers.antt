@@ -1,6 +1,6 @@
 -- `ring::strand::letter_at` meets its contract.
-use Rattle.std.proofs.Common.{◌≡◌, ℕ, ◌+◌, ◌-◌, ◌*◌, ◌<◌, ◌≤◌, Bool, true, false, List, [], ◌∷◌, ◌++◌, length, take, drop, get_or, refl, sym, ◌∙◌, ap, arith, rules}
-use Rattle.ring.proofs.OnStrand.{at_opposite, at_own}
+use Rattle.std.proofs.Common.{sym, ◌∙◌}
+use Rattle.ring.proofs.OnStrand.{at_opposite}
 use Rattle.ring.proofs.strand.letter_at.Goals as goal
 
 pub returns-then-strand-eq1 : goal.returns-then-strand-eq1

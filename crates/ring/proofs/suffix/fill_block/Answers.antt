@@ -1,7 +1,6 @@
 -- `suffix::fill_block` meets its contract. The invariant: the entries so far are right.
-use Rattle.std.proofs.Common.{◌≡◌, ℕ, ◌+◌, ◌-◌, ◌*◌, ◌<◌, ◌≤◌, Bool, true, false, List, [], ◌∷◌, ◌++◌, length, take, drop, get_or, refl, sym, ◌∙◌, ap, arith, rules, length-set}
-use Rattle.words.proofs.Order.Search.{either}
-use Rattle.words.proofs.Suffixes.Fill.{Block, Filled, block_first, block_greater, block_equal, block_end, filled_less, filled_again, filled_on, filled_below, fill_first, fill_greater, fill_equal}
+use Rattle.std.proofs.Common.{◌-◌, arith, length-set}
+use Rattle.words.proofs.Suffixes.Fill.{block_first, block_greater, block_equal, block_end, filled_again, filled_below, fill_first, fill_greater, fill_equal}
 use native.Mathlib.Nat.{mod-lt}
 use Rattle.ring.proofs.suffix.fill_block.Goals.{then-ring-l-2, else-ring-l-2, else-loop-l-test, then-loop-l-test+then-ring-l}
 use Rattle.ring.proofs.suffix.fill_block.Goals as goal
@@ -21,7 +20,7 @@ loop-l-preserved c =
     let i = c.loop-l.invariant in
     let h = c.loop-l-test.true in
     elim c.if-ring-l-2.branch [
-      then-ring-l-2 w ↦ let b = block_greater _ _ _ _ i.0 h w.if-ring-l-2.true in rw (w.table-is, w.p-is) (b, fill_greater _ _ _ _ i.1 h (omega arith) _ b, rw length-set i.2)
+      | then-ring-l-2 w ↦ let b = block_greater _ _ _ _ i.0 h w.if-ring-l-2.true in rw (w.table-is, w.p-is) (b, fill_greater _ _ _ _ i.1 h (omega arith) _ b, rw length-set i.2)
       | else-ring-l-2 w ↦ let b = block_equal _ _ _ _ i.0 h (omega arith) in rw (w.table-is, w.p-is) (b, fill_equal _ _ _ _ i.1 h (omega arith) _ _ i.0 b, rw length-set i.2)
     ]
 
@@ -30,6 +29,6 @@ returns-clause-lower_bound c =
     let i = c.loop-l.invariant in
     let g = mod-lt (c.loop-l.l - c.args.m) i.0.some in
     let e = block_end _ _ _ _ i.0 (λ l. elim c.loop-l-test.branch [
-      else-loop-l-test w ↦ absurd (omega arith)
+      | else-loop-l-test w ↦ absurd (omega arith)
       | then-loop-l-test+then-ring-l w ↦ w.if-ring-l.true
     ]) in (omega (arith, i.0.order), e.within, e)

@@ -1,7 +1,5 @@
 -- `ring::suffix::suffixes` meets its contract.
-use Rattle.std.proofs.Common.{◌≡◌, ℕ, ◌+◌, ◌-◌, ◌*◌, ◌<◌, ◌≤◌, Bool, true, false, List, [], ◌∷◌, ◌++◌, length, take, drop, get_or, refl, sym, ◌∙◌, ap, arith, rules}
-use Rattle.ring.specs.Answers.{checked_as}
-use Rattle.ring.proofs.Judging.{not_taken}
+use Rattle.std.proofs.Common.{sym, ◌∙◌}
 use Rattle.ring.proofs.Exactly.{taken_permitted}
 use borrow.Author.Tests.{ltb-false}
 use Rattle.ring.proofs.suffix.suffixes.Goals as goal

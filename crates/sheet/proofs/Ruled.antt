@@ -11,7 +11,7 @@ use lib.Dec.{ltb, eqb}
 use lib.ListN.{length}
 use Rattle.words.proofs.Order.Search.{by_test}
 use Rattle.ring.specs.declared.judge.Verdict.TheVariants.{Taken}
-use Rattle.ring.specs.Judging.{Given, number_of, place_of, taken}
+use Rattle.ring.specs.Judging.{Given, taken}
 use Rattle.ring.specs.Demands.{AsRuled, lent}
 use Rattle.ring.proofs.Exactly.{taken_is, taken_permitted}
 use Rattle.ring.proofs.ComparedLemmas.{length-key}

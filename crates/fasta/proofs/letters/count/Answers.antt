@@ -1,6 +1,6 @@
 -- What the loop of `fasta::letters::count` keeps as it begins, behind a base and behind a letter that is none, by `Counting`.
 -- Assumes nothing.
-use Rattle.std.proofs.Common.{rules, arith, sym, ◌∙◌}
+use Rattle.std.proofs.Common.{arith, sym, ◌∙◌}
 use Rattle.fasta.proofs.Counting.{count_first, count_base, count_other}
 use Rattle.fasta.proofs.letters.count.Goals as goal
 

@@ -14,7 +14,7 @@ pub slice_bounds-result-count : goal.slice_bounds-result-count
 slice_bounds-result-count c = header_order _ _ _ (record { found = c.find_header-mark.ensures; some = c.if-text-mark.false; end = c.line_end-end.ensures })
 
 pub slice_bounds-result-start : goal.slice_bounds-result-start
-slice_bounds-result-start c = ?
+slice_bounds-result-start c = header_order _ _ _ (record { found = c.find_header-mark.ensures; some = c.if-text-mark.false; end = c.line_end-end.ensures })
 
 pub returns : goal.returns
 returns c = record {

@@ -35,5 +35,5 @@ overflow_sub-result c = header_order _ _ _ c.requires
 pub returns : goal.returns
 returns c =
     let a =
-        says_done _ _ _ c.requires _ _ _ c.count-counted.ensures c.args.room.now _ c.if-n-eq0.false c.if-n-gt-MOST.false c.if-counted-text.false c.if-room-n.false _ c.put.ensures refl in
+    says_done _ _ _ c.requires _ _ _ c.count-counted.ensures c.args.room.now _ c.if-n-eq0.false c.if-n-gt-MOST.false c.if-counted-text.false c.if-room-n.false _ c.put.ensures refl in
     record { value = a.0; room_after = a.1 }

@@ -10,7 +10,7 @@ use Rattle.fasta.specs.contracts.parts.find
 use Rattle.fasta.proofs.parts.find.Kinds as find-kinds
 use Rattle.fasta.proofs.parts.find.Reads as find-reads
 use Rattle.fasta.specs.contracts.reader.record as whole
-use Rattle.fasta.proofs.reader.record.Kinds as whole_Kinds
+use Rattle.fasta.proofs.reader.record.Kinds as whole-kinds
 use Rattle.fasta.proofs.reader.record.Reads as whole-reads
 use Rattle.fasta.specs.contracts.parts.header
 use Rattle.fasta.proofs.parts.header.Kinds as header-kinds
@@ -23,7 +23,7 @@ pub find_call : (κs : Lifetimes.Lfts 1) (a : World.ArgsD find.signature κs) (r
     → find-reads.Post κs a r e → FindCall a.0.now r
 find_call κs a r e p = record { answer = p }
 
-pub record_call : (κs : Lifetimes.Lfts 2) (a : World.ArgsD whole.signature κs) (r : World.ResD whole.signature κs) (e : Clauses.AtExit (Fn.ended_of 2 whole_Kinds.ps whole_Kinds.r) κs)
+pub record_call : (κs : Lifetimes.Lfts 2) (a : World.ArgsD whole.signature κs) (r : World.ResD whole.signature κs) (e : Clauses.AtExit (Fn.ended_of 2 whole-kinds.ps whole-kinds.r) κs)
     → whole-reads.Post κs a r e → RecordCall a.0.now a.1.0.now r e.1.0.now
 record_call κs a r e p = record { answer = p.0; leaves = p.1 }
 

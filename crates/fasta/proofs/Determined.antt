@@ -11,7 +11,7 @@ use Rattle.fasta.specs.contracts.parts.find
 use Rattle.fasta.proofs.parts.find.Kinds as find-kinds
 use Rattle.fasta.proofs.parts.find.Reads as find-reads
 use Rattle.fasta.specs.contracts.reader.record as whole
-use Rattle.fasta.proofs.reader.record.Kinds as whole_Kinds
+use Rattle.fasta.proofs.reader.record.Kinds as whole-kinds
 use Rattle.fasta.proofs.reader.record.Reads as whole-reads
 use Rattle.fasta.specs.contracts.parts.header
 use Rattle.fasta.proofs.parts.header.Kinds as header-kinds
@@ -24,7 +24,7 @@ pub find_determined : (κs : Lifetimes.Lfts 1) (a : World.ArgsD find.signature �
     → find-reads.Post κs a r e → find-reads.Post κs a s f → r ≡ s
 find_determined κs a r s e f p q = promised_one p q
 
-pub record_determined : (κs : Lifetimes.Lfts 2) (a : World.ArgsD whole.signature κs) (r s : World.ResD whole.signature κs) (e f : Clauses.AtExit (Fn.ended_of 2 whole_Kinds.ps whole_Kinds.r) κs)
+pub record_determined : (κs : Lifetimes.Lfts 2) (a : World.ArgsD whole.signature κs) (r s : World.ResD whole.signature κs) (e f : Clauses.AtExit (Fn.ended_of 2 whole-kinds.ps whole-kinds.r) κs)
     → whole-reads.Post κs a r e → whole-reads.Post κs a s f → (r ≡ s) × (e.1.0.now ≡ f.1.0.now)
 record_determined κs a r s e f p q = (promised_one p.0 q.0, promised_one p.1 q.1)
 

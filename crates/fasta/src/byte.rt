@@ -14,6 +14,7 @@ pub fn stands(text: &[u8], i: usize, a: u8) -> bool
 }
 
 // Whether a line end begins at `i`: LF, or CR with LF behind it.
+#[tactic(auto, unfolding(crate::specs::Scan::ends))]
 pub fn line_ends(text: &[u8], i: usize) -> bool
     requires { i < length text.now }
     ensures { result ≡ ends (get_or text.now i 0) (drop (i + 1) text.now) }
@@ -28,6 +29,7 @@ pub fn line_ends(text: &[u8], i: usize) -> bool
 }
 
 // Whether the byte at `i` is kept as a letter: no space, no tab, and no part of a line end. None of these is above a space.
+#[tactic(auto, unfolding(crate::specs::Scan::keeps, crate::specs::Lines::is_blank, crate::specs::Scan::ends))]
 pub fn is_kept(text: &[u8], i: usize) -> bool
     requires { i < length text.now }
     ensures { result ≡ keeps (get_or text.now i 0) (drop (i + 1) text.now) }
@@ -45,6 +47,7 @@ pub fn is_kept(text: &[u8], i: usize) -> bool
 }
 
 // Whether the byte at `i` ends a line and a header is next.
+#[tactic(auto, unfolding(crate::specs::Scan::turns))]
 pub fn turns_at(text: &[u8], i: usize) -> bool
     requires { i < length text.now }
     ensures { result ≡ turns (get_or text.now i 0) (drop (i + 1) text.now) }
@@ -56,6 +59,7 @@ pub fn turns_at(text: &[u8], i: usize) -> bool
 }
 
 // Whether a header begins at `i`: the mark, with a line's end before it. The mark is tested first, since it is the rarer.
+#[tactic(auto, unfolding(crate::specs::Scan::turns))]
 pub fn opens_at(text: &[u8], i: usize) -> bool
     requires { (0 < i) × (i < length text.now) }
     ensures { result ≡ turns (get_or text.now (i - 1) 0) (drop i text.now) }

@@ -47,9 +47,9 @@ pub fn lines(facts: &Facts, key: &Key) -> Vec<u8> {
     text
 }
 
-/// The program, where it is built: target/bin/ringline.
+/// The program, where it is built: crates/ringline/out/ringline.
 pub fn program() -> Option<PathBuf> {
-    let path = Path::new(env!("CARGO_MANIFEST_DIR")).join("../target/bin/ringline");
+    let path = Path::new(env!("CARGO_MANIFEST_DIR")).join("../crates/ringline/out/ringline");
     path.exists().then_some(path)
 }
 

@@ -1,17 +1,17 @@
 // Every byte at one place of a text: which bytes give which number.
-use shown::{front, labelled, letters, line};
+use shown::{Out, front, labelled, letters, line};
 
 // A byte, and the letters kept with it.
-fn with_letters(b: u8, room: &[u8], n: usize) {
+fn with_letters(out: &mut Out, b: u8, room: &[u8], n: usize) {
     let one = [b];
-    letters(&one);
+    letters(out, &one);
     if 0 < n {
-        front(room, n);
+        front(out, room, n);
     }
 }
 
 // The byte `b` at `at`, shown where the text then gives `number`.
-fn given(text: &mut [u8], at: usize, b: u8, number: u8) {
+fn given(out: &mut Out, text: &mut [u8], at: usize, b: u8, number: u8) {
     if text.len() <= at {
         return;
     }
@@ -19,48 +19,45 @@ fn given(text: &mut [u8], at: usize, b: u8, number: u8) {
     let mut room = [b'.'; 8];
     let r = fasta::record(text, &mut room);
     if r.number == number {
-        with_letters(b, &room, r.n);
+        with_letters(out, b, &room, r.n);
     }
 }
 
 // The bytes that give `number` at `at`.
-fn giving(text: &mut [u8], at: usize, number: u8) {
-    labelled(b"number", number as usize);
-    shown::text(b" :");
-    let mut b: u8 = 0;
-    while b < 255 {
-        given(text, at, b, number);
-        b += 1;
+fn giving(out: &mut Out, text: &mut [u8], at: usize, number: u8) {
+    labelled(out, b"number", number as usize);
+    shown::text(out, b" :");
+    for b in 0..=255 {
+        given(out, text, at, b, number);
     }
-    given(text, at, 255, number);
-    line();
+    line(out);
 }
 
 // The text, and the bytes that give each number at `at`.
-fn each(text: &mut [u8], at: usize) {
-    shown::text(b"Every byte for ? in");
-    letters(text);
-    line();
-    giving(text, at, 0);
-    giving(text, at, 1);
-    giving(text, at, 3);
-    giving(text, at, 8);
+fn each(out: &mut Out, text: &mut [u8], at: usize) {
+    shown::text(out, b"Every byte for ? in");
+    letters(out, text);
+    line(out);
+    giving(out, text, at, 0);
+    giving(out, text, at, 1);
+    giving(out, text, at, 3);
+    giving(out, text, at, 8);
 }
 
 // A line of one byte, ended by LF.
-pub fn alone() {
+pub fn alone(out: &mut Out) {
     let mut text = *b">a\n?\n";
-    each(&mut text, 3);
+    each(out, &mut text, 3);
 }
 
 // Between two letters.
-pub fn between() {
+pub fn between(out: &mut Out) {
     let mut text = *b">a\nA?C\n";
-    each(&mut text, 4);
+    each(out, &mut text, 4);
 }
 
 // The first byte of a text.
-pub fn before() {
+pub fn before(out: &mut Out) {
     let mut text = *b"?\n>a\nAC\n";
-    each(&mut text, 0);
+    each(out, &mut text, 0);
 }

@@ -1,20 +1,27 @@
 // Line ends: LF, CR LF, and a last line without an end.
 use super::show::case;
+use shown::Out;
 
-pub fn ends() {
-    case(b"Lines ended by LF", b">a\nAC\nGT\n", 4);
-    case(b"Lines ended by CR LF", b">a\r\nAC\r\nGT\r\n", 4);
-    case(b"A last line without an end", b">a\nAC\nGT", 4);
-    case(b"A last line of blanks without an end", b">a\nAC\n \t", 4);
-    case(b"A header line without an end", b">a", 4);
+pub fn ends(out: &mut Out) {
+    case(out, b"Lines ended by LF", b">a\nAC\nGT\n", 4);
+    case(out, b"Lines ended by CR LF", b">a\r\nAC\r\nGT\r\n", 4);
+    case(out, b"A last line without an end", b">a\nAC\nGT", 4);
+    case(
+        out,
+        b"A last line of blanks without an end",
+        b">a\nAC\n \t",
+        4,
+    );
+    case(out, b"A header line without an end", b">a", 4);
 }
 
-pub fn mixed() {
+pub fn mixed(out: &mut Out) {
     case(
+        out,
         b"Both ends in one text, and a next header",
         b">a\r\nAC\nGT\r\n>b\r\nGG\n",
         4,
     );
-    case(b"A next header without an end", b">a\nAC\n>b", 4);
-    case(b"Two ends at once", b">a\n\nAC\r\n\r\nGT\n\n", 4);
+    case(out, b"A next header without an end", b">a\nAC\n>b", 4);
+    case(out, b"Two ends at once", b">a\n\nAC\r\n\r\nGT\n\n", 4);
 }

@@ -1,6 +1,7 @@
 // Records of 8,192 letters and of more, with a record behind them that is read on.
 use super::walk::walk;
 use ring::MOST;
+use shown::Out;
 
 // Where the first of MOST + 1 letters stands, behind the header.
 const FIRST: usize = 5;
@@ -51,37 +52,42 @@ fn byte(i: usize) -> u8 {
 // The text as an array.
 fn laid() -> [u8; SIZE] {
     let mut text = [b' '; SIZE];
-    let mut i = 0;
-    while i < SIZE {
+    for i in 0..SIZE {
         text[i] = byte(i);
-        i += 1;
     }
     text
 }
 
 // With the last letter blank: as many letters as a ring may have.
-fn full(mut text: [u8; SIZE]) {
+fn full(out: &mut Out, mut text: [u8; SIZE]) {
     text[LAST] = b' ';
-    walk(b"8,192 letters, and a room for them", &text, MOST);
-    walk(b"4: 8,192 letters, and a room of 8,191", &text, MOST - 1);
+    walk(out, b"8,192 letters, and a room for them", &text, MOST);
+    walk(
+        out,
+        b"4: 8,192 letters, and a room of 8,191",
+        &text,
+        MOST - 1,
+    );
     text[LAST - 1] = b'N';
-    walk(b"3: the last of 8,192 letters", &text, MOST);
-    walk(b"3 before 4: and a room of 0", &text, 0);
+    walk(out, b"3: the last of 8,192 letters", &text, MOST);
+    walk(out, b"3 before 4: and a room of 0", &text, 0);
 }
 
 // With every letter: one more than a ring may have.
-fn beyond(mut text: [u8; SIZE]) {
-    walk(b"2: 8,193 letters", &text, MOST + 1);
+fn beyond(out: &mut Out, mut text: [u8; SIZE]) {
+    walk(out, b"2: 8,193 letters", &text, MOST + 1);
     text[FIRST] = b'N';
     walk(
+        out,
         b"2 before 3: and the first letter is no base",
         &text,
         MOST + 1,
     );
     text[LAST] = b'>';
-    walk(b"2 before 3 and 4: and the last is a mark", &text, 2);
+    walk(out, b"2 before 3 and 4: and the last is a mark", &text, 2);
     text[0] = b'A';
     walk(
+        out,
         b"8 before 2, 3 and 4: and a letter line before the header",
         &text,
         2,
@@ -89,8 +95,8 @@ fn beyond(mut text: [u8; SIZE]) {
 }
 
 // Both over one text, laid once.
-pub fn records() {
+pub fn records(out: &mut Out) {
     let text = laid();
-    full(text);
-    beyond(text);
+    full(out, text);
+    beyond(out, text);
 }

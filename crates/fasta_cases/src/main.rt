@@ -13,31 +13,36 @@ mod rooms;
 mod show;
 mod walk;
 
-fn main() {
-    parts::records();
-    parts::headers();
-    lines::ends();
-    lines::mixed();
-    returns::letters();
-    returns::lines();
-    returns::headers();
-    letters::kept();
-    letters::passed();
-    letters::before();
-    marks::headers();
-    marks::within();
-    marks::blanks();
-    marks::places();
-    numbers::nothing();
-    numbers::early();
-    numbers::none();
-    numbers::wrong();
-    rooms::short();
-    rooms::order();
-    bytes::alone();
-    bytes::between();
-    bytes::before();
-    walk::texts();
-    walk::refused();
-    long::records();
+use shown::Out;
+use std::io;
+
+fn main(rt: HostRuntime) -> io::Result<()> {
+    let mut out = Out::new(rt.alloc());
+    parts::records(&mut out);
+    parts::headers(&mut out);
+    lines::ends(&mut out);
+    lines::mixed(&mut out);
+    returns::letters(&mut out);
+    returns::lines(&mut out);
+    returns::headers(&mut out);
+    letters::kept(&mut out);
+    letters::passed(&mut out);
+    letters::before(&mut out);
+    marks::headers(&mut out);
+    marks::within(&mut out);
+    marks::blanks(&mut out);
+    marks::places(&mut out);
+    numbers::nothing(&mut out);
+    numbers::early(&mut out);
+    numbers::none(&mut out);
+    numbers::wrong(&mut out);
+    rooms::short(&mut out);
+    rooms::order(&mut out);
+    bytes::alone(&mut out);
+    bytes::between(&mut out);
+    bytes::before(&mut out);
+    walk::texts(&mut out);
+    walk::refused(&mut out);
+    long::records(&mut out);
+    out.print(&rt)
 }

@@ -14,7 +14,7 @@ pub extern "C" fn probe_key_part<'a>(
     part: &mut &'a [u8],
 )
     ensures part_after { part.new.now ≡ key_part kind ring.now (length first.old) (length second.old) }
-    ensures ptr_after { part.new.ptr ≡ cond (in_second kind ring.now (length first.old) (length second.old)) second.entry.ref_ptr first.entry.ref_ptr }
+    ensures ptr_after { part.new.ref_ptr ≡ cond (in_second kind ring.now (length first.old) (length second.old)) second.entry.ref_ptr first.entry.ref_ptr }
 {
     let key = ring::key(ring, kind, first, second);
     *part = key;
@@ -23,7 +23,7 @@ pub extern "C" fn probe_key_part<'a>(
 #[unsafe(no_mangle)]
 pub extern "C" fn probe_sheet_letters_part<'a>(bytes: &'a [u8], part: &mut &'a [u8])
     ensures part_after { part.new.now ≡ part_of bytes.now }
-    ensures ptr_after { (part.new.ptr.0 ≡ bytes.entry.ref_ptr.0) × (part.new.ptr.1 ≡ bytes.entry.ref_ptr.1 + (entry_of bytes.now).before) }
+    ensures ptr_after { (part.new.ref_ptr.0 ≡ bytes.entry.ref_ptr.0) × (part.new.ref_ptr.1 ≡ bytes.entry.ref_ptr.1 + (entry_of bytes.now).before) }
 {
     *part = sheet::letters(bytes);
 }
@@ -31,7 +31,7 @@ pub extern "C" fn probe_sheet_letters_part<'a>(bytes: &'a [u8], part: &mut &'a [
 #[unsafe(no_mangle)]
 pub extern "C" fn probe_fasta_header_part<'a>(text: &'a [u8], part: &mut &'a [u8])
     ensures part_after { part.new.now ≡ header_of text.now }
-    ensures ptr_after { (part.new.ptr.0 ≡ text.entry.ref_ptr.0) × (part.new.ptr.1 ≡ text.entry.ref_ptr.1 + header_at text.now) }
+    ensures ptr_after { (part.new.ref_ptr.0 ≡ text.entry.ref_ptr.0) × (part.new.ref_ptr.1 ≡ text.entry.ref_ptr.1 + header_at text.now) }
 {
     *part = fasta::header(text);
 }
@@ -39,7 +39,7 @@ pub extern "C" fn probe_fasta_header_part<'a>(text: &'a [u8], part: &mut &'a [u8
 #[unsafe(no_mangle)]
 pub extern "C" fn probe_fasta_rest_part<'a>(text: &'a [u8], part: &mut &'a [u8])
     ensures part_after { part.new.now ≡ rest_of text.now }
-    ensures ptr_after { (part.new.ptr.0 ≡ text.entry.ref_ptr.0) × (part.new.ptr.1 ≡ text.entry.ref_ptr.1 + rest_at text.now) }
+    ensures ptr_after { (part.new.ref_ptr.0 ≡ text.entry.ref_ptr.0) × (part.new.ref_ptr.1 ≡ text.entry.ref_ptr.1 + rest_at text.now) }
 {
     *part = fasta::rest(text);
 }

@@ -1,49 +1,49 @@
 // The comparison's refusals: the first ring is judged in full before the second, and only then the lengths.
-use shown::{bar, compared, labelled, line, named, text};
+use shown::{Out, bar, compared, labelled, line, named, text};
 
 // One more comparison on the line.
-fn with(first: &[u8], second: &[u8], kind: u8) {
-    bar();
-    compared(ring::compare(first, second, kind));
+fn with(out: &mut Out, first: &[u8], second: &[u8], kind: u8) {
+    bar(out);
+    compared(out, ring::compare(first, second, kind));
 }
 
 // One ring against ACG, GAC, AC, no letters, 8,193 letters, 8,192 letters, ACN and N.
-fn against(first: &[u8], kind: u8) {
+fn against(out: &mut Out, first: &[u8], kind: u8) {
     let long = [b'A'; 8193];
-    text(b"COMPARE");
-    named(first);
-    labelled(b" kind", kind as usize);
-    text(b" with the eight\n");
-    compared(ring::compare(first, b"ACG", kind));
-    with(first, b"GAC", kind);
-    with(first, b"AC", kind);
-    with(first, b"", kind);
-    with(first, &long, kind);
-    with(first, &long[..8192], kind);
-    with(first, b"ACN", kind);
-    with(first, b"N", kind);
-    line();
+    text(out, b"COMPARE");
+    named(out, first);
+    labelled(out, b" kind", kind as usize);
+    text(out, b" with the eight\n");
+    compared(out, ring::compare(first, b"ACG", kind));
+    with(out, first, b"GAC", kind);
+    with(out, first, b"AC", kind);
+    with(out, first, b"", kind);
+    with(out, first, &long, kind);
+    with(out, first, &long[..8192], kind);
+    with(out, first, b"ACN", kind);
+    with(out, first, b"N", kind);
+    line(out);
 }
 
-pub fn refusals() {
-    against(b"ACG", 1);
-    against(b"CGT", 1);
-    against(b"", 1);
-    against(b"ACN", 1);
-    against(b"NAN", 1);
-    against(b"ACG", 0);
-    against(b"", 0);
-    against(b"ACN", 2);
-    against(b"ACn", 2);
-    against(b"ACG", 3);
-    against(b"", 3);
+pub fn refusals(out: &mut Out) {
+    against(out, b"ACG", 1);
+    against(out, b"CGT", 1);
+    against(out, b"", 1);
+    against(out, b"ACN", 1);
+    against(out, b"NAN", 1);
+    against(out, b"ACG", 0);
+    against(out, b"", 0);
+    against(out, b"ACN", 2);
+    against(out, b"ACn", 2);
+    against(out, b"ACG", 3);
+    against(out, b"", 3);
 }
 
 // The long rings as the first.
-pub fn long() {
+pub fn long(out: &mut Out) {
     let ring = [b'A'; 8193];
-    against(&ring, 1);
-    against(&ring[..8192], 1);
-    against(&ring, 0);
-    against(&ring, 3);
+    against(out, &ring, 1);
+    against(out, &ring[..8192], 1);
+    against(out, &ring, 0);
+    against(out, &ring, 3);
 }

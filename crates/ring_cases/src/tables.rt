@@ -1,5 +1,5 @@
 // The calls that fill a table.
-use shown::{checked, factored, text};
+use shown::{Out, checked, factored, text};
 
 #[derive(Clone, Copy)]
 pub enum Call {
@@ -8,19 +8,19 @@ pub enum Call {
     Starts,
 }
 
-pub fn name(call: Call) {
+pub fn name(out: &mut Out, call: Call) {
     match call {
-        Call::Factors => text(b"factors"),
-        Call::Suffixes => text(b"suffixes"),
-        Call::Starts => text(b"starts"),
+        Call::Factors => text(out, b"factors"),
+        Call::Suffixes => text(out, b"suffixes"),
+        Call::Starts => text(out, b"starts"),
     }
 }
 
 // Fills a lent table, and prints the answer.
-pub fn fill(call: Call, ring: &[u8], kind: u8, table: &mut [u16]) {
+pub fn fill(out: &mut Out, call: Call, ring: &[u8], kind: u8, table: &mut [u16]) {
     match call {
-        Call::Factors => factored(ring::factors(ring, kind, table)),
-        Call::Suffixes => checked(ring::suffixes(ring, kind, table)),
-        Call::Starts => checked(ring::starts(ring, kind, table)),
+        Call::Factors => factored(out, ring::factors(ring, kind, table)),
+        Call::Suffixes => checked(out, ring::suffixes(ring, kind, table)),
+        Call::Starts => checked(out, ring::starts(ring, kind, table)),
     }
 }

@@ -28,10 +28,8 @@ pub fn turn(ring: &[u8], room: &mut [u8]) {
     if room.len() < n {
         return;
     }
-    let mut i = 1;
-    while i < n {
+    for i in 1..n {
         room[i - 1] = ring[i];
-        i += 1;
     }
     room[n - 1] = ring[0];
 }
@@ -42,9 +40,7 @@ pub fn opposite(ring: &[u8], room: &mut [u8]) {
     if room.len() < n {
         return;
     }
-    let mut i = 0;
-    while i < n {
+    for i in 0..n {
         room[i] = facing(ring[n - 1 - i]);
-        i += 1;
     }
 }

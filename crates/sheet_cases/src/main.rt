@@ -6,18 +6,23 @@ mod damage;
 mod reports;
 mod sheets;
 
-fn main() {
-    sheets::deposits();
-    sheets::rooms();
-    sheets::edges();
-    sheets::marks();
-    sheets::ways();
-    sheets::uncertain();
-    damage::sheets();
-    books::three();
-    books::left_overs();
-    books::kinds();
-    reports::short();
-    reports::full();
-    reports::small_room();
+use shown::Out;
+use std::io;
+
+fn main(rt: HostRuntime) -> io::Result<()> {
+    let mut out = Out::new(rt.alloc());
+    sheets::deposits(&mut out);
+    sheets::rooms(&mut out);
+    sheets::edges(&mut out);
+    sheets::marks(&mut out);
+    sheets::ways(&mut out);
+    sheets::uncertain(&mut out);
+    damage::sheets(&mut out);
+    books::three(&mut out);
+    books::left_overs(&mut out);
+    books::kinds(&mut out);
+    reports::short(&mut out);
+    reports::full(&mut out);
+    reports::small_room(&mut out);
+    out.print(&rt)
 }

@@ -1,61 +1,62 @@
 // The answers of the calls: the number, the place, and the other fields in the order in which they stand.
+use super::out::Out;
 use super::show::{number, small, text, yes};
 use ring::{Checked, Compared, Factored, Fought, Marked, Repeated};
 use sheet::{Entry, Walked};
 
 // The number and the place, with which every answer begins.
-pub fn outcome(n: u8, place: usize) {
-    small(n);
-    number(place);
+pub fn outcome(out: &mut Out, n: u8, place: usize) {
+    small(out, n);
+    number(out, place);
 }
 
-pub fn checked(c: Checked) {
-    outcome(c.number, c.place);
+pub fn checked(out: &mut Out, c: Checked) {
+    outcome(out, c.number, c.place);
 }
 
-pub fn factored(f: Factored) {
-    outcome(f.number, f.place);
-    number(f.count);
-    number(f.start);
+pub fn factored(out: &mut Out, f: Factored) {
+    outcome(out, f.number, f.place);
+    number(out, f.count);
+    number(out, f.start);
 }
 
-pub fn fought(f: Fought) {
-    outcome(f.number, f.place);
-    number(f.start);
-    number(f.pairs);
+pub fn fought(out: &mut Out, f: Fought) {
+    outcome(out, f.number, f.place);
+    number(out, f.start);
+    number(out, f.pairs);
 }
 
-pub fn repeated(r: Repeated) {
-    outcome(r.number, r.place);
-    number(r.repeat);
+pub fn repeated(out: &mut Out, r: Repeated) {
+    outcome(out, r.number, r.place);
+    number(out, r.repeat);
 }
 
-pub fn marked(m: Marked) {
-    outcome(m.number, m.place);
-    number(m.n);
-    number(m.start);
-    small(m.strand);
+pub fn marked(out: &mut Out, m: Marked) {
+    outcome(out, m.number, m.place);
+    number(out, m.n);
+    number(out, m.start);
+    small(out, m.strand);
 }
 
-pub fn compared(c: Compared) {
-    outcome(c.number, c.place);
-    small(c.ring);
-    yes(c.same);
+pub fn compared(out: &mut Out, c: Compared) {
+    outcome(out, c.number, c.place);
+    small(out, c.ring);
+    yes(out, c.same);
 }
 
-pub fn read(e: Entry) {
+pub fn read(out: &mut Out, e: Entry) {
     let m = e.marked;
-    marked(m);
-    small(e.kind);
-    number(e.before);
+    marked(out, m);
+    small(out, e.kind);
+    number(out, e.before);
 }
 
-pub fn walked(w: Walked) {
-    outcome(w.number, w.place);
-    number(w.sheets);
+pub fn walked(out: &mut Out, w: Walked) {
+    outcome(out, w.number, w.place);
+    number(out, w.sheets);
 }
 
 // What parts two answers on one line.
-pub fn bar() {
-    text(b" |");
+pub fn bar(out: &mut Out) {
+    text(out, b" |");
 }

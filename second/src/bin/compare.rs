@@ -217,7 +217,7 @@ fn main() {
     let mut c = Comparison::new();
     let mut numbers = Numbers::new(7);
     let Some(program) = report::program() else {
-        eprintln!("ringline is not built, so its runs cannot be compared: `rt check ringline` builds it");
+        eprintln!("ringline is not built, so its runs cannot be compared: `./ringline` builds it");
         std::process::exit(1)
     };
     faces_agree();

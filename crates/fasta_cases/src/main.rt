@@ -17,7 +17,7 @@ use shown::Out;
 use std::io;
 
 fn main(rt: HostRuntime) -> io::Result<()> {
-    let mut out = Out::new(rt.alloc());
+    let mut out = Out::new(rt.stdout());
     parts::records(&mut out);
     parts::headers(&mut out);
     lines::ends(&mut out);
@@ -44,5 +44,5 @@ fn main(rt: HostRuntime) -> io::Result<()> {
     walk::texts(&mut out);
     walk::refused(&mut out);
     long::records(&mut out);
-    out.print(&rt)
+    out.end()
 }

@@ -18,7 +18,7 @@ use shown::Out;
 use std::io;
 
 fn main(rt: HostRuntime) -> io::Result<()> {
-    let mut out = Out::new(rt.alloc());
+    let mut out = Out::new(rt.stdout());
     examples::rows(&mut out);
     examples::more(&mut out);
     examples::pairs(&mut out);
@@ -48,5 +48,5 @@ fn main(rt: HostRuntime) -> io::Result<()> {
     iupac::edges(&mut out);
     iupac::key_rooms(&mut out);
     deposits::uncertain(&mut out);
-    out.print(&rt)
+    out.end()
 }

@@ -10,7 +10,7 @@ use shown::Out;
 use std::io;
 
 fn main(rt: HostRuntime) -> io::Result<()> {
-    let mut out = Out::new(rt.alloc());
+    let mut out = Out::new(rt.stdout());
     sheets::deposits(&mut out);
     sheets::rooms(&mut out);
     sheets::edges(&mut out);
@@ -24,5 +24,5 @@ fn main(rt: HostRuntime) -> io::Result<()> {
     reports::short(&mut out);
     reports::full(&mut out);
     reports::small_room(&mut out);
-    out.print(&rt)
+    out.end()
 }

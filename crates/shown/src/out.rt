@@ -1,47 +1,44 @@
-// What a program prints: kept until its end, with the first failure.
-use std::alloc::Global;
+// What a program prints, on standard output, with the first failure.
 use std::io;
-use std::io::Write;
+use std::io::{Stdout, Write};
 
 #[derive(Drop)]
 pub struct Out {
-    bytes: Vec<u8>,
-    kept: io::Result<()>,
+    to: Stdout,
+    first: io::Result<()>,
 }
 
 impl Out {
-    pub fn new(alloc: Global) -> Out {
-        Out {
-            bytes: Vec::new(alloc),
-            kept: Ok(()),
-        }
+    pub fn new(to: Stdout) -> Out {
+        Out { to, first: Ok(()) }
     }
 
-    // After a failure nothing more is kept.
+    // After a failure nothing more is printed.
     pub fn text(&mut self, bytes: &[u8]) {
-        if self.kept.is_ok() {
-            self.kept = self.bytes.write_all(bytes);
+        if self.first.is_ok() {
+            self.first = io::writer(&self.to).write_all(bytes);
         }
     }
 
     // A number in decimal digits.
     pub fn decimal(&mut self, n: u64) {
-        if self.kept.is_ok() {
-            self.kept = write!(self.bytes, "{n}");
+        if self.first.is_ok() {
+            let mut writer = io::writer(&self.to);
+            self.first = write!(writer, "{n}");
         }
     }
 
     // A byte as two hexadecimal digits.
     pub fn digits(&mut self, b: u8) {
-        if self.kept.is_ok() {
-            self.kept = write!(self.bytes, "{b:02x}");
+        if self.first.is_ok() {
+            let mut writer = io::writer(&self.to);
+            self.first = write!(writer, "{b:02x}");
         }
     }
 
-    // Prints all that is kept, or answers the first failure.
-    pub fn print(self, rt: &impl Print) -> io::Result<()> {
-        let Out { bytes, kept } = self;
-        kept?;
-        io::writer(rt).write_all(&bytes)
+    // The first failure, if there was one.
+    pub fn end(self) -> io::Result<()> {
+        let Out { first, .. } = self;
+        first
     }
 }

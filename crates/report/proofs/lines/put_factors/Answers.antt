@@ -5,18 +5,11 @@ use Rattle.report.specs.Report.{longest, factor_line}
 use Rattle.report.proofs.Told.{told_factored, told_table}
 use Rattle.report.proofs.lines.put_factors.Goals as goal
 
-pub returns-clause-value : goal.returns-clause-value
+pub returns : goal.returns
 unfolding factor_line
-returns-clause-value c =
+returns c =
     let w = c.args.ring.now in
     let p = c.requires.0 in
     let n = told_factored w p _ longest p.within c.factors-factored.ensures.value in
-    rw (told_table w p (replicate longest 0) _ p.within (factor_table w) _ n c.factors-factored.ensures.table_after) at c.put_table.ensures.value
-
-pub returns-clause-room_after : goal.returns-clause-room_after
-unfolding factor_line
-returns-clause-room_after c =
-    let w = c.args.ring.now in
-    let p = c.requires.0 in
-    let n = told_factored w p _ longest p.within c.factors-factored.ensures.value in
-    rw (told_table w p (replicate longest 0) _ p.within (factor_table w) _ n c.factors-factored.ensures.table_after) at c.put_table.ensures.room_after
+    let t = told_table w p (replicate longest 0) _ p.within (factor_table w) _ n c.factors-factored.ensures.table_after in
+    record { value = rw t at c.put_table.ensures.value; room_after = rw t at c.put_table.ensures.room_after }

@@ -13,16 +13,12 @@ overflow_cast-repeat c = omega (arith, told_repeated _ c.requires.0 _ c.repeat-r
 pub overflow_cast-pairs : goal.overflow_cast-pairs
 overflow_cast-pairs c = omega (arith, (told-fought _ c.requires.0 _ c.duel-fought.ensures).1, pairs_small _ c.requires.0)
 
-pub returns-clause-value : goal.returns-clause-value
+pub returns : goal.returns
 unfolding head_line
-returns-clause-value c =
+returns c =
     let f = told-fought c.args.ring.now c.requires.0 _ c.duel-fought.ensures in
     let r = told_repeated c.args.ring.now c.requires.0 _ c.repeat-repeated.ensures in
-    (rw (← f.0, ← f.1, ← r) c.put_row.ensures.value.0, omega arith)
-
-pub returns-clause-room_after : goal.returns-clause-room_after
-unfolding head_line
-returns-clause-room_after c =
-    let f = told-fought c.args.ring.now c.requires.0 _ c.duel-fought.ensures in
-    let r = told_repeated c.args.ring.now c.requires.0 _ c.repeat-repeated.ensures in
-    rw (← f.0, ← f.1, ← r) c.put_row.ensures.room_after
+    record {
+      value = (rw (← f.0, ← f.1, ← r) c.put_row.ensures.value.0, omega arith);
+      room_after = rw (← f.0, ← f.1, ← r) c.put_row.ensures.room_after;
+    }

@@ -7,16 +7,10 @@ use Rattle.report.specs.Report.{longest, start_line}
 use Rattle.report.proofs.Told.{told_table}
 use Rattle.report.proofs.lines.put_starts.Goals as goal
 
-pub returns-clause-value : goal.returns-clause-value
+pub returns : goal.returns
 unfolding start_line
-returns-clause-value c =
+returns c =
     let w = c.args.ring.now in
     let p = c.requires.0 in
-    rw (told_table w p (replicate longest 0) _ p.within (start_table w) _ (sym (length-start_table w)) c.starts.ensures.table_after) at c.put_table.ensures.value
-
-pub returns-clause-room_after : goal.returns-clause-room_after
-unfolding start_line
-returns-clause-room_after c =
-    let w = c.args.ring.now in
-    let p = c.requires.0 in
-    rw (told_table w p (replicate longest 0) _ p.within (start_table w) _ (sym (length-start_table w)) c.starts.ensures.table_after) at c.put_table.ensures.room_after
+    let t = told_table w p (replicate longest 0) _ p.within (start_table w) _ (sym (length-start_table w)) c.starts.ensures.table_after in
+    record { value = rw t at c.put_table.ensures.value; room_after = rw t at c.put_table.ensures.room_after }

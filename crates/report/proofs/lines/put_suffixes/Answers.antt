@@ -7,16 +7,10 @@ use Rattle.report.specs.Report.{longest, suffix_line}
 use Rattle.report.proofs.Told.{told_table}
 use Rattle.report.proofs.lines.put_suffixes.Goals as goal
 
-pub returns-clause-value : goal.returns-clause-value
+pub returns : goal.returns
 unfolding suffix_line
-returns-clause-value c =
+returns c =
     let w = c.args.ring.now in
     let p = c.requires.0 in
-    rw (told_table w p (replicate longest 0) _ p.within (suffix_table w) _ (sym (length-suffix_table w)) c.suffixes.ensures.table_after) at c.put_table.ensures.value
-
-pub returns-clause-room_after : goal.returns-clause-room_after
-unfolding suffix_line
-returns-clause-room_after c =
-    let w = c.args.ring.now in
-    let p = c.requires.0 in
-    rw (told_table w p (replicate longest 0) _ p.within (suffix_table w) _ (sym (length-suffix_table w)) c.suffixes.ensures.table_after) at c.put_table.ensures.room_after
+    let t = told_table w p (replicate longest 0) _ p.within (suffix_table w) _ (sym (length-suffix_table w)) c.suffixes.ensures.table_after in
+    record { value = rw t at c.put_table.ensures.value; room_after = rw t at c.put_table.ensures.room_after }

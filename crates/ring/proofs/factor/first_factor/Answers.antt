@@ -1,4 +1,5 @@
 -- `ring::factor::first_factor` meets its contract. The invariant is the scan of `Rattle.words.proofs.Factors.Scan`, on the strand; letters that
+-- are the same are read alike, and letters that differ are not.
 use Rattle.std.proofs.Common.{arith}
 use Rattle.words.proofs.Factors.Scan.{scan_greater, scan_equal}
 use Rattle.words.proofs.Keys.Strand.{length-strand}

@@ -1,4 +1,5 @@
 -- `ring::factor::first_factor` meets its contract. The invariant is the scan of `Rattle.words.proofs.Factors.Scan`, on the strand; letters that
+-- are the same are read alike, and letters that differ are not.
 use Rattle.std.proofs.Common.{◌≡◌, ◌-◌, length}
 use Rattle.words.specs.Keys.Strand.{on_strand}
 use Rattle.words.proofs.Factors.Scan.{Scan}

@@ -22,29 +22,13 @@ put_reading-requires-then-has_opposite c =
     let b = found_within 1 _ _ (ap (λ (s : Strands). s.other) c.read_strands-s.ensures) (key_permitted _ _ _ _ t).some in
     (omega arith, second_fits _ _ _ _ t (sym c.has_opposite.ensures ∙ c.if-has_opposite.true))
 
-pub returns-then-has_opposite-clause-value : goal.returns-then-has_opposite-clause-value
-returns-then-has_opposite-clause-value c =
+pub returns-then-has_opposite : goal.returns-then-has_opposite
+returns-then-has_opposite c =
     let r = c.args in
     let t = sym (keyed_is r.kind r.ring.now _ _ _ _ c.short_rooms-short.ensures c.judge-v.ensures) ∙ c.in-Taken.is in
     let k = keyed_stranded r.kind r.ring.now r.first.now r.second.now t (sym c.has_opposite.ensures ∙ c.if-has_opposite.true) _ _ _ _
     c.read_strands-s.ensures c.chosen.ensures c.put_reading.ensures c.put_reading-then-has_opposite.ensures in
-    k.answer
-
-pub returns-then-has_opposite-clause-first_after : goal.returns-then-has_opposite-clause-first_after
-returns-then-has_opposite-clause-first_after c =
-    let r = c.args in
-    let t = sym (keyed_is r.kind r.ring.now _ _ _ _ c.short_rooms-short.ensures c.judge-v.ensures) ∙ c.in-Taken.is in
-    let k = keyed_stranded r.kind r.ring.now r.first.now r.second.now t (sym c.has_opposite.ensures ∙ c.if-has_opposite.true) _ _ _ _
-    c.read_strands-s.ensures c.chosen.ensures c.put_reading.ensures c.put_reading-then-has_opposite.ensures in
-    k.front
-
-pub returns-then-has_opposite-clause-second_after : goal.returns-then-has_opposite-clause-second_after
-returns-then-has_opposite-clause-second_after c =
-    let r = c.args in
-    let t = sym (keyed_is r.kind r.ring.now _ _ _ _ c.short_rooms-short.ensures c.judge-v.ensures) ∙ c.in-Taken.is in
-    let k = keyed_stranded r.kind r.ring.now r.first.now r.second.now t (sym c.has_opposite.ensures ∙ c.if-has_opposite.true) _ _ _ _
-    c.read_strands-s.ensures c.chosen.ensures c.put_reading.ensures c.put_reading-then-has_opposite.ensures in
-    k.back
+    record { value = k.answer; first_after = k.front; second_after = k.back }
 
 pub marks_of-m-requires : goal.marks_of-m-requires
 marks_of-m-requires c =

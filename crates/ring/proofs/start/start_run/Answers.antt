@@ -1,4 +1,5 @@
 -- `ring::start::start_run` meets its contract: `best` is the lowest of the runs' heads before m, the first of them if several are equal;
+-- `size` and `end` are those of the run there.
 use Rattle.std.proofs.Common.{◌≡◌, ℕ, ◌+◌, ◌≤◌, List, length, drop, refl, ◌∙◌, arith, rules, length-drop}
 use Rattle.words.specs.Factors.Factor.{FirstRun}
 use Rattle.words.specs.Keys.Strand.{on_strand}

@@ -1,4 +1,5 @@
 -- `ring::start::start_run` meets its contract: `best` is the lowest of the runs' heads before m, the first of them if several are equal;
+-- `size` and `end` are those of the run there.
 use Rattle.std.proofs.Common.{◌≡◌, ◌≤◌, ◌-◌, length}
 use Rattle.words.specs.Keys.Strand.{on_strand}
 use Rattle.words.proofs.Factors.Run.{Best, BestRun}

@@ -10,7 +10,7 @@ use lib.Dec.{leb}
 use lib.ListN.{length, take, drop}
 use lib.Seq.{take-append_seam}
 use Rattle.words.proofs.Order.Search.{by_test}
-use Rattle.ring.specs.declared.judge.Verdict.{Verdict}
+use Rattle.ring.specs.Verdict.{Verdict}
 use Rattle.ring.specs.Judging.{taken, field, after}
 use Rattle.fasta.specs.Lines.{Line, is_blank, upper, kept_of, letters}
 use Rattle.fasta.specs.Parts.{unheaded, letters_of}

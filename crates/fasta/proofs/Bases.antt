@@ -1,17 +1,20 @@
--- The table of bases at each byte, and what it tells of a byte.
+-- The table of bases at each byte, what it tells of a byte, and the bases of bytes one behind another.
 -- Assumes nothing.
-use mathlib.Core.Path.{◌≡◌}
+use mathlib.Core.Path.{◌≡◌, refl, sym, ap, ◌∙◌}
 use mathlib.Core.Bool.{true, false}
-use Prim.Native.Nat.{ℕ, ◌≤◌, ◌<◌}
+use mathlib.Core.List.{List, [], ◌∷◌, ◌++◌, append-nil}
+use Prim.Native.Nat.{ℕ, ◌≤◌, ◌<◌, ◌+◌}
 use native.Mathlib.Omega.{arith}
-use borrow.Author.Tests.{eqb-true, leb-true}
-use lib.Dec.{eqb, leb}
-use lib.ListN.{get_or}
+use borrow.Author.Tests.{eqb-true, leb-true, lt-ltb, le-ltb}
+use lib.Dec.{eqb, leb, ltb}
+use lib.ListN.{length, take, drop, get_or, length-append}
+use Rattle.std.specs.Prelude.{Option, Some, None, MatchOption, is_some}
+use Rattle.std.proofs.lemmas.List.{take_more, take-append-drop}
 use Rattle.words.specs.Keys.Kind.{is_letter}
 use Rattle.words.proofs.Order.Search.{by_test, tabled_at}
 use Rattle.fasta.specs.Lines.{space, upper}
 use Rattle.fasta.specs.Answers.{base_kind}
-use Rattle.fasta.specs.Bases.{base_of, bytes, base_table}
+use Rattle.fasta.specs.Bases.{base_of, bytes, base_table, bases_in}
 
 pub base_at : (b : ℕ) → b < bytes → get_or base_table b 0 ≡ base_of b
 unfolding base_table
@@ -52,3 +55,36 @@ no_base b h =
     by_test (is_letter base_kind (upper b))
     (λ e. absurd (let k = letter_between (upper b) e in let z : upper b ≤ 0 = rw e at h in omega (arith, k.low)))
     (λ e. e)
+
+-- ---- the bases of bytes
+
+pub bases-append : (s t : List ℕ) → bases_in (s ++ t) ≡ bases_in s ++ bases_in t
+bases-append [] t = refl
+bases-append (b ∷ s) t = by_test (ltb 0 (base_of b)) (λ e. rw (e, bases-append s t)) (λ e. rw (e, bases-append s t))
+
+-- up to a byte more
+module _ (s : List ℕ) (i : ℕ) (h : i < length s) where
+  bases_more : bases_in (take (i + 1) s) ≡ bases_in (take i s) ++ bases_in (get_or s i 0 ∷ [])
+  bases_more = ap bases_in (take_more s i 0 h) ∙ bases-append (take i s) (get_or s i 0 ∷ [])
+
+  pub bases_more_some : 0 < base_of (get_or s i 0) → bases_in (take (i + 1) s) ≡ bases_in (take i s) ++ (base_of (get_or s i 0) ∷ [])
+  bases_more_some q = bases_more ∙ rw (lt-ltb 0 (base_of (get_or s i 0)) q)
+
+  pub bases_more_none : base_of (get_or s i 0) ≤ 0 → bases_in (take (i + 1) s) ≡ bases_in (take i s)
+  bases_more_none q = bases_more ∙ rw (le-ltb 0 (base_of (get_or s i 0)) q) (append-nil (bases_in (take i s)))
+
+-- of the first bytes they are the first
+pub bases_fewer : (s : List ℕ) (i : ℕ) → length (bases_in (take i s)) ≤ length (bases_in s)
+bases_fewer s i =
+    let e : bases_in (take i s ++ drop i s) ≡ bases_in (take i s) ++ bases_in (drop i s) = bases-append (take i s) (drop i s) in
+    omega (arith, ap length (ap bases_in (sym (take-append-drop i s)) ∙ e), length-append (bases_in (take i s)) (bases_in (drop i s)))
+
+-- ---- what a look-up answers
+
+pub found_some : (b : ℕ) (r : Option ℕ) → MatchOption r (base_of b ≡ 0) (λ a. (a ≡ base_of b) × (0 < a)) → is_some r ≡ true → 0 < base_of b
+found_some b None m e = cc
+found_some b (Some a) m e = omega (arith, m.0, m.1)
+
+pub found_none : (b : ℕ) (r : Option ℕ) → MatchOption r (base_of b ≡ 0) (λ a. (a ≡ base_of b) × (0 < a)) → is_some r ≡ false → base_of b ≤ 0
+found_none b None m e = omega (arith, m)
+found_none b (Some a) m e = cc

@@ -5,6 +5,7 @@ use contract.Lifetimes
 use borrow.Fn.World
 use borrow.Fn.Kinds as Fn
 use denote.Triple.Clauses
+use Rattle.fasta.specs.Told.{told_record, told_found}
 use Rattle.fasta.specs.Calls.{FindCall, RecordCall, HeaderCall, RestCall}
 use Rattle.fasta.specs.contracts.parts.find
 use Rattle.fasta.proofs.parts.find.Kinds as find-kinds
@@ -20,11 +21,11 @@ use Rattle.fasta.proofs.parts.rest.Kinds as rest-kinds
 use Rattle.fasta.proofs.parts.rest.Reads as rest-reads
 
 pub find_call : (κs : Lifetimes.Lfts 1) (a : World.ArgsD find.signature κs) (r : World.ResD find.signature κs) (e : Clauses.AtExit (Fn.ended_of 1 find-kinds.ps find-kinds.r) κs)
-    → find-reads.Post κs a r e → FindCall a.0.now r
+    → find-reads.Post κs a r e → FindCall a.0.now (told_found r)
 find_call κs a r e p = record { answer = p }
 
 pub record_call : (κs : Lifetimes.Lfts 2) (a : World.ArgsD whole.signature κs) (r : World.ResD whole.signature κs) (e : Clauses.AtExit (Fn.ended_of 2 whole-kinds.ps whole-kinds.r) κs)
-    → whole-reads.Post κs a r e → RecordCall a.0.now a.1.0.now r e.1.0.now
+    → whole-reads.Post κs a r e → RecordCall a.0.now a.1.0.now (told_record r) e.1.0.now
 record_call κs a r e p = record { answer = p.0; leaves = p.1 }
 
 pub header_call : (κs : Lifetimes.Lfts 1) (a : World.ArgsD header.signature κs) (r : World.ResD header.signature κs) (e : Clauses.AtExit (Fn.ended_of 1 header-kinds.ps header-kinds.r) κs)

@@ -1,47 +1,50 @@
 -- What the loop that counts the letters of a record keeps, and a law for each way it goes.
 -- Assumes nothing.
 use mathlib.Core.Path.{◌≡◌, refl, sym, ◌∙◌}
-use mathlib.Core.Bool.{true, false, cond}
+use mathlib.Core.Bool.{true, false}
 use mathlib.Core.List.{List, [], ◌∷◌, ◌++◌}
 use Prim.Native.Nat.{ℕ, ◌<◌, ◌≤◌, ◌+◌}
 use native.Mathlib.Omega.{arith}
-use lib.Dec.{eqb}
-use lib.ListN.{length, drop, get_or}
+use lib.ListN.{length, take, drop, get_or}
+use Rattle.std.specs.Prelude.{Option, Some, None}
+use Rattle.std.specs.Option.{option_or}
 use Rattle.fasta.specs.Lines.{upper}
-use Rattle.fasta.specs.Bases.{base_of}
+use Rattle.fasta.specs.Bases.{base_of, bases_in}
 use Rattle.fasta.specs.Scan.{keeps, turns, letters_in, rest_in, Stands, first_other, Counts}
-use Rattle.fasta.proofs.Bases.{base_letter, base_high, no_base}
+use Rattle.fasta.proofs.Bases.{base_is, base_letter, base_high, no_base, bases_more_some, bases_more_none}
 use Rattle.fasta.proofs.Bytes.{keep_high}
-use Rattle.fasta.proofs.Scanning.{cons, gone, stands_end}
+use Rattle.fasta.proofs.Scanning.{cons}
 use Rattle.fasta.proofs.Others.{length_more, other_good, other_bad}
 use Rattle.fasta.proofs.Passing.{Passing, passing_none, all_passed, passing_kept, passing_on}
 
-pub record Counting (text : List ℕ) (from i n other : ℕ) : Type 0 where
+pub record Counting (text : List ℕ) (i n : ℕ) (other : Option ℕ) : Type 0 where
   pub passed : List ℕ
-  pub passing : Passing text from i passed
+  pub passing : Passing text i passed
   pub size : n ≡ length passed
-  pub first : other ≡ first_other (length text) passed
+  pub first : other ≡ first_other passed
+  -- the letters passed are the bases of the bytes passed, where all are bases
+  pub bases : other ≡ None → bases_in (take i text) ≡ passed
 
-pub count_first : (text : List ℕ) (from : ℕ) → from ≤ length text → Counting text from from 0 (length text)
+pub count_first : (text : List ℕ) → Counting text 0 0 None
 unfolding first_other
-count_first text from h = record { passed = []; passing = passing_none text from h; size = refl; first = refl }
+count_first text = record { passed = []; passing = passing_none text; size = refl; first = refl; bases = λ e. refl }
 
-module _ (text : List ℕ) (from i n other : ℕ) (s : Counting text from i n other) where
-  pub count_few : n ≤ i
-  count_few = omega (arith, s.passing.few, s.size)
+never : (o : Option ℕ) (n : ℕ) → option_or o (Some n) ≡ None → ⊥
+never None n e = cc
+never (Some k) n e = cc
 
-  counts : (r : ℕ) → letters_in (drop i text) ≡ [] → Stands text (rest_in (drop i text)) r → Counts text from n other r
-  counts r e d =
-      let a = all_passed text from i s.passed s.passing e in
+module _ (text : List ℕ) (i n : ℕ) (other : Option ℕ) (s : Counting text i n other) where
+  counts : (r : ℕ) → letters_in (drop i text) ≡ [] → Stands text (rest_in (drop i text)) r → (other ≡ None → bases_in (take r text) ≡ s.passed)
+      → Counts text n other r
+  counts r e d b =
+      let a = all_passed text i s.passed s.passing e in
       record {
         size = rw a s.size;
-        few = omega (arith, count_few, s.passing.within);
+        few = omega (arith, s.size, s.passing.few, s.passing.within);
         first = rw a s.first;
         remains = record { within = d.within; is = d.is ∙ sym s.passing.rest };
+        bases = λ q. b q ∙ sym a;
       }
-
-  pub count_all : length text ≤ i → Counts text from n other (length text)
-  count_all h = counts (length text) (rw (gone text i h)) (stands_end text (rest_in (drop i text)) (rw (gone text i h)))
 
   module _ (h : i < length text) where
     abbrev c : ℕ
@@ -50,30 +53,37 @@ module _ (text : List ℕ) (from i n other : ℕ) (s : Counting text from i n ot
     abbrev u : List ℕ
     u = drop (i + 1) text
 
-    kept : keeps c u ≡ true → (k : ℕ) → k ≡ first_other (length text) (s.passed ++ (upper c ∷ [])) → Counting text from (i + 1) (n + 1) k
-    kept q k e = record {
+    kept : keeps c u ≡ true → (k : Option ℕ) → k ≡ first_other (s.passed ++ (upper c ∷ []))
+        → (k ≡ None → bases_in (take (i + 1) text) ≡ s.passed ++ (upper c ∷ [])) → Counting text (i + 1) (n + 1) k
+    kept q k e b = record {
       passed = s.passed ++ (upper c ∷ []);
-      passing = passing_kept text from i s.passed s.passing h q;
+      passing = passing_kept text i s.passed s.passing h q;
       size = rw (length_more s.passed (upper c)) (omega (arith, s.size));
       first = e;
+      bases = b;
     }
 
     -- a base
-    pub count_base : 0 < base_of c → Counting text from (i + 1) (n + 1) other
+    pub count_base : 0 < base_of c → Counting text (i + 1) (n + 1) other
     count_base q =
         kept (sym (keep_high c u (base_high c q))) other
-        (s.first ∙ sym (other_good (length text) s.passed (upper c) (base_letter c q)))
+        (s.first ∙ sym (other_good s.passed (upper c) (base_letter c q)))
+        (λ e. bases_more_some text i h q ∙ rw (s.bases e, base_is c q))
 
     module _ (z : base_of c ≤ 0) where
       -- a letter that is none
-      pub count_other : keeps c u ≡ true → (k : ℕ) → k ≡ cond (eqb other (length text)) n other → Counting text from (i + 1) (n + 1) k
+      pub count_other : keeps c u ≡ true → (k : Option ℕ) → k ≡ option_or other (Some n) → Counting text (i + 1) (n + 1) k
       count_other q k e =
-          kept q k
-          (e ∙ rw (s.first, s.size) (sym (other_bad (length text) s.passed (upper c) (no_base c z) (omega (arith, s.passing.few)))))
+          let f : k ≡ option_or (first_other s.passed) (Some (length s.passed)) = rw (← s.first, ← s.size) e in
+          kept q k (f ∙ sym (other_bad s.passed (upper c) (no_base c z))) (λ y. absurd (never other n (sym e ∙ y)))
 
-    module _ (q : keeps c u ≡ false) where
-      pub count_turn : turns c u ≡ true → Counts text from n other (i + 1)
-      count_turn e = counts (i + 1) (rw (cons text i h, q, e)) (record { within = omega arith; is = rw (cons text i h, e) })
+      module _ (q : keeps c u ≡ false) where
+        passed_by : other ≡ None → bases_in (take (i + 1) text) ≡ s.passed
+        passed_by e = bases_more_none text i h z ∙ s.bases e
 
-      pub count_on : turns c u ≡ false → Counting text from (i + 1) n other
-      count_on e = record { passed = s.passed; passing = passing_on text from i s.passed s.passing h q e; size = s.size; first = s.first }
+        pub count_turn : turns c u ≡ true → Counts text n other (i + 1)
+        count_turn e = counts (i + 1) (rw (cons text i h, q, e)) (record { within = omega arith; is = rw (cons text i h, e) }) passed_by
+
+        pub count_on : turns c u ≡ false → Counting text (i + 1) n other
+        count_on e =
+            record { passed = s.passed; passing = passing_on text i s.passed s.passing h q e; size = s.size; first = s.first; bases = passed_by }

@@ -3,6 +3,7 @@
 -- Assumes nothing.
 use mathlib.Core.Path.{◌≡◌}
 use Rattle.words.proofs.Order.Search.{promised_one}
+use Rattle.fasta.proofs.Tellings.{found_one, record_one}
 use contract.Lifetimes
 use borrow.Fn.World
 use borrow.Fn.Kinds as Fn
@@ -22,11 +23,11 @@ use Rattle.fasta.proofs.parts.rest.Reads as rest-reads
 
 pub find_determined : (κs : Lifetimes.Lfts 1) (a : World.ArgsD find.signature κs) (r s : World.ResD find.signature κs) (e f : Clauses.AtExit (Fn.ended_of 1 find-kinds.ps find-kinds.r) κs)
     → find-reads.Post κs a r e → find-reads.Post κs a s f → r ≡ s
-find_determined κs a r s e f p q = promised_one p q
+find_determined κs a r s e f p q = found_one r s (promised_one p q)
 
 pub record_determined : (κs : Lifetimes.Lfts 2) (a : World.ArgsD whole.signature κs) (r s : World.ResD whole.signature κs) (e f : Clauses.AtExit (Fn.ended_of 2 whole-kinds.ps whole-kinds.r) κs)
     → whole-reads.Post κs a r e → whole-reads.Post κs a s f → (r ≡ s) × (e.1.0.now ≡ f.1.0.now)
-record_determined κs a r s e f p q = (promised_one p.0 q.0, promised_one p.1 q.1)
+record_determined κs a r s e f p q = (record_one r s (promised_one p.0 q.0), promised_one p.1 q.1)
 
 pub header_determined : (κs : Lifetimes.Lfts 1) (a : World.ArgsD header.signature κs) (r s : World.ResD header.signature κs) (e f : Clauses.AtExit (Fn.ended_of 1 header-kinds.ps header-kinds.r) κs)
     → header-reads.Post κs a r e → header-reads.Post κs a s f → (r.now ≡ s.now) × (r.ref_ptr.0 ≡ s.ref_ptr.0) × (r.ref_ptr.1 ≡ s.ref_ptr.1)

@@ -4,6 +4,7 @@ pub mod Contracts
 pub mod Determined
 pub mod Examples
 -- The laws that they cite
+pub mod Tellings
 pub mod Cutting
 pub mod Layouts
 pub mod Places

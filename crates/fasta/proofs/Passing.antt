@@ -1,4 +1,4 @@
--- The letters of a record, passed one by one: what the loops that count and write them keep of those passed.
+-- The letters of a record, passed one by one: what the loop that counts them keeps of those passed.
 -- Assumes nothing.
 use mathlib.Core.Path.{◌≡◌, refl, sym, ◌∙◌}
 use mathlib.Core.Bool.{true, false}
@@ -12,19 +12,19 @@ use Rattle.fasta.proofs.Bytes.{keeps-turns}
 use Rattle.fasta.proofs.Scanning.{cons}
 use Rattle.fasta.proofs.Others.{length_more}
 
--- w are the letters from `from` to i
-pub record Passing (text : List ℕ) (from i : ℕ) (w : List ℕ) : Type 0 where
-  pub letters : letters_in (drop from text) ≡ w ++ letters_in (drop i text)
-  pub rest : rest_in (drop from text) ≡ rest_in (drop i text)
+-- w are the letters to i
+pub record Passing (text : List ℕ) (i : ℕ) (w : List ℕ) : Type 0 where
+  pub letters : letters_in text ≡ w ++ letters_in (drop i text)
+  pub rest : rest_in text ≡ rest_in (drop i text)
   pub few : length w ≤ i
   pub within : i ≤ length text
 
-pub passing_none : (text : List ℕ) (from : ℕ) → from ≤ length text → Passing text from from []
-passing_none text from h = record { letters = refl; rest = refl; few = omega arith; within = h }
+pub passing_none : (text : List ℕ) → Passing text 0 []
+passing_none text = record { letters = refl; rest = refl; few = omega arith; within = omega arith }
 
-module _ (text : List ℕ) (from i : ℕ) (w : List ℕ) (p : Passing text from i w) where
+module _ (text : List ℕ) (i : ℕ) (w : List ℕ) (p : Passing text i w) where
   -- no letter is left
-  pub all_passed : letters_in (drop i text) ≡ [] → letters_in (drop from text) ≡ w
+  pub all_passed : letters_in (drop i text) ≡ [] → letters_in text ≡ w
   all_passed e = p.letters ∙ rw e (append-nil w)
 
   module _ (h : i < length text) where
@@ -34,7 +34,7 @@ module _ (text : List ℕ) (from i : ℕ) (w : List ℕ) (p : Passing text from 
     abbrev t : List ℕ
     t = drop (i + 1) text
 
-    pub passing_kept : keeps b t ≡ true → Passing text from (i + 1) (w ++ (upper b ∷ []))
+    pub passing_kept : keeps b t ≡ true → Passing text (i + 1) (w ++ (upper b ∷ []))
     passing_kept k = record {
       letters = p.letters ∙ rw (cons text i h, k) (sym (append_assoc w (upper b ∷ []) (letters_in t)));
       rest = p.rest ∙ rw (cons text i h, keeps-turns b t k);
@@ -42,7 +42,7 @@ module _ (text : List ℕ) (from i : ℕ) (w : List ℕ) (p : Passing text from 
       within = omega arith;
     }
 
-    pub passing_on : keeps b t ≡ false → turns b t ≡ false → Passing text from (i + 1) w
+    pub passing_on : keeps b t ≡ false → turns b t ≡ false → Passing text (i + 1) w
     passing_on k q = record {
       letters = p.letters ∙ rw (cons text i h, k, q);
       rest = p.rest ∙ rw (cons text i h, q);

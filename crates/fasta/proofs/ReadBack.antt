@@ -2,7 +2,7 @@
 -- Assumes nothing.
 use mathlib.Core.Path.{◌≡◌, ap₂, ◌∙◌}
 use mathlib.Core.List.{List, [], ◌∷◌}
-use Rattle.ring.specs.declared.judge.Verdict.TheVariants.{Taken}
+use Rattle.ring.specs.Verdict.{Taken}
 use Rattle.ring.specs.Judging.{most}
 use Rattle.ring.proofs.Exactly.{roomed}
 use Rattle.fasta.specs.Parts.{letters_of}

@@ -6,17 +6,20 @@ use mathlib.Core.List.{List, [], ◌∷◌, ◌++◌}
 use Prim.Native.Nat.{ℕ, suc, ◌<◌, ◌≤◌, ◌+◌, ◌-◌}
 use native.Mathlib.Omega.{arith}
 use borrow.Author.Tests.{lt-ltb, le-ltb}
-use lib.ListN.{length, take, drop, get_or, length-append, length-drop, drop_of_length-le}
+use lib.ListN.{length, take, drop, get_or, length-append, length-drop}
 use lib.Seq.{drop-cons, drop-drop, drop-append-le, take_at, take_all}
-use Rattle.ring.specs.declared.judge.Verdict.{Verdict}
-use Rattle.ring.specs.declared.judge.Verdict.TheVariants.{Taken, Empty, Long, Letter, Short}
+use Rattle.std.specs.Prelude.{Option, Some, None, Result, Ok, Err}
+use Rattle.ring.specs.Verdict.{Verdict}
 use Rattle.ring.specs.Judging.{most, first_bad, over, after}
 use Rattle.ring.proofs.Judging.{says_empty, says_long, says_letter, says_short, says_taken}
-use Rattle.fasta.specs.declared.answer.Found.{Found}
-use Rattle.fasta.specs.declared.answer.Record.{Record}
+use Rattle.fasta.specs.declared.answer.Refusal.{Refusal}
+use Rattle.fasta.specs.declared.answer.Refused.{Refused}
+use Rattle.fasta.specs.declared.answer.Taken.{Taken}
 use Rattle.fasta.specs.Lines.{Line, onto, lines_of, joined, first_body}
 use Rattle.fasta.specs.Parts.{beyond, record_lines, no_line, unheaded, header_of, letters_of, rest_of, header_at, rest_at}
 use Rattle.fasta.specs.Answers.{base_kind, letters_verdict, part, at_front, found_of, refused_with, record_as, record_of, record_room}
+use Rattle.fasta.specs.Told.{told_found, told_record}
+use Rattle.fasta.specs.Bases.{bases_in}
 use Rattle.fasta.specs.Scan.{header_from, letters_in, rest_in, Stands, HeaderLine, first_other, Counts}
 use Rattle.fasta.proofs.Lines.{by_end, joined-lines, header_from_lem, letters_in_lem, rest_in_lem, end_split, end_first, end_drop}
 use Rattle.fasta.proofs.Layouts.{layout_of, laid_record}
@@ -30,21 +33,25 @@ some_onto b (l ∷ ls) = refl
 some_lines : (b : ℕ) (t : List ℕ) → no_line (lines_of (b ∷ t)) ≡ false
 some_lines b t = by_end b t (λ e. rw e) (λ e c. rw (e, c)) (λ e c. rw (e, c) (some_onto b (lines_of t)))
 
+-- what stands in the text from m on, stands in the text
+pub stands_behind : (text s : List ℕ) (m k : ℕ) → m ≤ length text → Stands (drop m text) s k → Stands text s (m + k)
+stands_behind text s m k h d = record { within = omega (arith, d.within, length-drop m text); is = sym (drop-drop k m text) ∙ d.is }
+
+-- ---- no record
+
+module _ (text : List ℕ) (e : header_from text ≡ []) where
+  pub no_record : unheaded text ≡ true
+  no_record = rw (sym (header_from_lem text) ∙ ap lines_of e)
+
+  pub none_found : told_found None ≡ found_of text
+  none_found = rw no_record refl
+
+  pub none_record : (room : List ℕ) → (refused_with 8 0 at_front ≡ record_of text (length room)) × (room ≡ record_room text room)
+  none_record room = rw no_record (refl, refl)
+
 module _ (text : List ℕ) (m : ℕ) (f : Stands text (header_from text) m) where
   lines_at : record_lines text ≡ lines_of (drop m text)
   lines_at = sym (header_from_lem text) ∙ ap lines_of (sym f.is)
-
-  -- ---- no record
-
-  module _ (h : length text ≤ m) where
-    pub no_record : unheaded text ≡ true
-    no_record = rw (lines_at, drop_of_length-le text h)
-
-    pub none_found : (r : Found) → r ≡ record { number = 8; place = 0; header = at_front; rest = at_front } → r ≡ found_of text
-    none_found r e = e ∙ rw no_record
-
-    pub none_record : (r : Record) (room : List ℕ) → r ≡ refused_with 8 0 at_front → (r ≡ record_of text (length room)) × (room ≡ record_room text room)
-    none_record r room e = rw no_record (e, refl)
 
   -- ---- a record
 
@@ -116,11 +123,11 @@ module _ (text : List ℕ) (m e : ℕ) (g : HeaderLine text m e) where
   header_span = ap length header_body ∙ header_size
 
   -- found: both parts
-  pub says_found : (n : ℕ) → Stands text (rest_in (drop m text)) n → (r : Found)
-      → r ≡ record { number = 0; place = 0; header = part (m + 1) (e - (m + 1)); rest = part n (length text - n) } → r ≡ found_of text
-  says_found n d r q =
+  pub says_found : (n : ℕ) → Stands text (rest_in (drop m text)) n
+      → told_found (Some (record { header = part (m + 1) (e - (m + 1)); rest = part n (length text - n) })) ≡ found_of text
+  says_found n d =
       let s = rest_found text m g.found g.some n d in
-      q ∙ rw (has_header, header_at_lem text m g.found g.some, header_span, rest_at_lem text m g.found g.some n s, left_is text m g.found g.some n s)
+      rw (has_header, header_at_lem text m g.found g.some, header_span, rest_at_lem text m g.found g.some n s, left_is text m g.found g.some n s)
 
   -- ---- behind the header
 
@@ -138,67 +145,73 @@ module _ (text : List ℕ) (m e : ℕ) (g : HeaderLine text m e) where
   unfolding rest_of
   rest_is = rest_in_lem (drop e text) ∙ rw drop-lines
 
-  module _ (n o r : ℕ) (c : Counts text e n o r) where
-    remains : Stands text (rest_of text) r
-    remains = record { within = c.remains.within; is = c.remains.is ∙ rest_is }
+  -- a scan of the lines behind the header
+  module _ (n : ℕ) (o : Option ℕ) (k : ℕ) (c : Counts (drop e text) n o k) where
+    remains : Stands text (rest_of text) (e + k)
+    remains = rw (← rest_is) (stands_behind text (rest_in (drop e text)) e k g.end.within c.remains)
 
-    rest_told : part (rest_at text) (length (rest_of text)) ≡ part r (length text - r)
-    rest_told = rw (rest_at_lem text m g.found g.some r remains, left_is text m g.found g.some r remains)
+    rest_told : part (rest_at text) (length (rest_of text)) ≡ part (e + k) (length text - (e + k))
+    rest_told = rw (rest_at_lem text m g.found g.some (e + k) remains, left_is text m g.found g.some (e + k) remains)
 
     n_is : n ≡ length (letters_of text)
     n_is = c.size ∙ ap length letters_are
 
-    o_is : o ≡ first_other (length text) (letters_of text)
-    o_is = c.first ∙ ap (first_other (length text)) letters_are
+    o_is : o ≡ first_other (letters_of text)
+    o_is = c.first ∙ ap first_other letters_are
 
-    bases : length text ≤ o → length (letters_of text) ≤ first_bad base_kind (letters_of text)
-    bases h = other_none (length text) (letters_of text) (rw o_is at h) (omega (arith, n_is, c.few))
+    all_bases : o ≡ None → length (letters_of text) ≤ first_bad base_kind (letters_of text)
+    all_bases h = other_none (letters_of text) (sym o_is ∙ h)
 
-    -- each letter is a base where none was met that is not
-    pub bases_all : length text ≤ o → n ≤ first_bad base_kind (letters_in (drop e text))
-    bases_all h = rw letters_are (omega (arith, n_is, bases h))
+    -- where all are bases, the bases of the record's lines are its letters
+    pub bases_are : o ≡ None → bases_in (take k (drop e text)) ≡ letters_of text
+    bases_are h = c.bases h ∙ letters_are
 
     -- ---- each answer
 
-    module _ (room : List ℕ) (a : Record) where
-      abbrev Answers : List ℕ → Type 0
-      Answers x = (a ≡ record_of text (length room)) × (x ≡ record_room text room)
+    module _ (room : List ℕ) where
+      abbrev Answers : Result Taken Refused → List ℕ → Type 0
+      Answers a x = (told_record a ≡ record_of text (length room)) × (x ≡ record_room text room)
 
       -- by the letters' verdict
-      by_verdict : (v : Verdict) → letters_verdict text (length room) ≡ v → (x : List ℕ) → a ≡ record_as v text → x ≡ after v (letters_of text) room → Answers x
-      by_verdict v q x p s = rw (has_header, q) (p, s)
+      by_verdict : (v : Verdict) → letters_verdict text (length room) ≡ v → (a : Result Taken Refused) (x : List ℕ)
+          → told_record a ≡ record_as v text → x ≡ after v (letters_of text) room → Answers a x
+      by_verdict v q a x p s = rw (has_header, q) (p, s)
 
-      abbrev Refused : ℕ → ℕ → Type 0
-      Refused k i = a ≡ refused_with k i (part r (length text - r))
+      abbrev refused : Refusal → Result Taken Refused
+      refused y = Err (record { refusal = y; rest = part (e + k) (length text - (e + k)) })
 
-      pub says_one : n ≡ 0 → Refused 1 0 → Answers room
-      says_one z q = by_verdict Empty (says_empty base_kind (letters_of text) _ refl (omega (arith, n_is))) room (q ∙ rw rest_told) refl
+      pub says_one : n ≡ 0 → Answers (refused Refusal.NoLetters) room
+      says_one z = by_verdict Verdict.Empty (says_empty base_kind (letters_of text) _ refl (omega (arith, n_is))) (refused Refusal.NoLetters) room (rw rest_told) refl
 
       module _ (p : n ≡ 0 → ⊥) where
         some : length (letters_of text) ≡ 0 → ⊥
         some z = p (n_is ∙ z)
 
-        pub says_two : most < n → Refused 2 0 → Answers room
-        says_two l q = by_verdict Long (says_long base_kind (letters_of text) _ refl some (omega (arith, n_is))) room (q ∙ rw rest_told) refl
+        pub says_two : most < n → Answers (refused Refusal.TooManyLetters) room
+        says_two l = by_verdict Verdict.Long (says_long base_kind (letters_of text) _ refl some (omega (arith, n_is))) (refused Refusal.TooManyLetters) room (rw rest_told) refl
 
         module _ (l : n ≤ most) where
           fits : length (letters_of text) ≤ most
           fits = omega (arith, n_is)
 
-          pub says_three : o < length text → Refused 3 o → Answers room
-          says_three h q =
-              let k = other_is (length text) (letters_of text) (rw o_is at h) in
-              let f : o ≡ first_bad base_kind (letters_of text) = o_is ∙ k.0 in
-              by_verdict (Letter o) (says_letter base_kind (letters_of text) _ refl some fits o f (omega (arith, f, k.1))) room (q ∙ rw rest_told) refl
+          pub says_three : (i : ℕ) → o ≡ Some i → Answers (refused (Refusal.WrongLetter i)) room
+          says_three i h =
+              let j = other_is (letters_of text) i (sym o_is ∙ h) in
+              by_verdict (Verdict.Letter i) (says_letter base_kind (letters_of text) _ refl some fits i j.0 (omega (arith, j.0, j.1))) (refused (Refusal.WrongLetter i)) room (rw rest_told) refl
 
-          module _ (h : length text ≤ o) where
-            pub says_four : length room < n → Refused 4 0 → Answers room
-            says_four s q =
-                by_verdict Short (says_short base_kind (letters_of text) _ refl some fits (bases h) (lt-ltb (length room) (length (letters_of text)) (omega (arith, n_is)))) room
-                (q ∙ rw rest_told) refl
+          module _ (h : o ≡ None) where
+            pub says_four : length room < n → Answers (refused Refusal.NoRoom) room
+            says_four s =
+                by_verdict Verdict.Short (says_short base_kind (letters_of text) _ refl some fits (all_bases h) (lt-ltb (length room) (length (letters_of text)) (omega (arith, n_is))))
+                (refused Refusal.NoRoom) room (rw rest_told) refl
 
-            pub says_done : n ≤ length room → (x : List ℕ) → x ≡ over (letters_in (drop e text)) room
-                → a ≡ record { number = 0; place = 0; n = n; header = part (m + 1) (e - (m + 1)); rest = part r (length text - r) } → Answers x
-            says_done s x w q =
-                by_verdict Taken (says_taken base_kind (letters_of text) _ refl some fits (bases h) (le-ltb (length room) (length (letters_of text)) (omega (arith, n_is)))) x
-                (q ∙ rw (rest_told, header_at_lem text m g.found g.some, header_span, n_is)) (w ∙ ap (λ u. over u room) letters_are)
+            pub says_done : n ≤ length room → (x : List ℕ) → x ≡ over (bases_in (take k (drop e text))) room
+                → Answers (Ok (record { n = n; header = part (m + 1) (e - (m + 1)); rest = part (e + k) (length text - (e + k)) })) x
+            says_done s x w =
+                by_verdict Verdict.Taken (says_taken base_kind (letters_of text) _ refl some fits (all_bases h) (le-ltb (length room) (length (letters_of text)) (omega (arith, n_is))))
+                (Ok (record { n = n; header = part (m + 1) (e - (m + 1)); rest = part (e + k) (length text - (e + k)) })) x
+                (rw (rest_told, header_at_lem text m g.found g.some, header_span, n_is)) (w ∙ ap (λ u. over u room) (bases_are h))
+
+            -- there is room for them
+            pub room_fits : n ≤ length room → length (bases_in (take k (drop e text))) ≤ length room
+            room_fits s = rw (bases_are h) (omega (arith, n_is))

@@ -1,14 +1,18 @@
--- What a scan's loop keeps: what is sought is what the byte-wise definition F gives from i on. A law for each way it goes.
+-- What a scan's loop keeps: what is sought is what the byte-wise definition F gives from i on; and laws for the ways it goes.
 -- Assumes nothing.
 use mathlib.Core.Path.{◌≡◌, sym, ap, ◌∙◌}
-use mathlib.Core.Bool.{true, false}
+use mathlib.Core.Bool.{true, false, true≢false}
 use mathlib.Core.List.{List, [], ◌∷◌}
 use Prim.Native.Nat.{ℕ, ◌<◌, ◌≤◌, ◌+◌, ◌-◌}
 use native.Mathlib.Omega.{arith}
 use native.Mathlib.Numerals.{add-one}
-use lib.ListN.{length, drop, get_or, drop_of_length-le}
+use borrow.Author.Tests.{eq-eqb, ne_eqb}
+use lib.Dec.{eqb}
+use lib.ListN.{length, drop, get_or, drop_of_length-le, length-drop}
 use lib.Seq.{drop-cons, drop-length}
 use Rattle.words.proofs.Order.Search.{by_test}
+use Rattle.fasta.specs.Lines.{mark, lf, begins}
+use Rattle.fasta.proofs.Lines.{split_true}
 use Rattle.fasta.specs.Scan.{turns, rest_in, Stands}
 
 -- the byte at i, and the text behind it
@@ -18,33 +22,45 @@ cons text i h = rw add-one (drop-cons text i 0 h)
 pub gone : (text : List ℕ) (i : ℕ) → length text ≤ i → drop i text ≡ []
 gone text i h = drop_of_length-le text h
 
+-- a text that begins with a byte has one
+pub begins_some : (a : ℕ) (t : List ℕ) → begins a t ≡ true → 0 < length t
+begins_some a [] e = absurd (true≢false (sym e))
+begins_some a (b ∷ t) e = omega arith
+
+pub turned_some : (b : ℕ) (text : List ℕ) (i : ℕ) → turns b (drop i text) ≡ true → i < length text
+unfolding turns
+turned_some b text i e =
+    let h = begins_some mark (drop i text) (split_true (eqb b lf) (begins mark (drop i text)) e).1 in omega (arith, h, length-drop i text)
+
 -- nothing stands at the text's end
 pub stands_end : (text s : List ℕ) → s ≡ [] → Stands text s (length text)
 stands_end text s e = record { within = omega arith; is = drop-length text ∙ sym e }
+
+-- a mark behind a line's end
+module _ (text : List ℕ) (i : ℕ) (h : i < length text) where
+  marked : begins mark (drop i text) ≡ eqb (get_or text i 0) mark
+  marked = rw (cons text i h)
+
+  pub turned : get_or text i 0 ≡ mark → get_or text (i - 1) 0 ≡ lf → turns (get_or text (i - 1) 0) (drop i text) ≡ true
+  unfolding turns
+  turned e f = rw (marked, eq-eqb (get_or text (i - 1) 0) lf f, eq-eqb (get_or text i 0) mark e)
+
+  pub unmarked : (get_or text i 0 ≡ mark → ⊥) → turns (get_or text (i - 1) 0) (drop i text) ≡ false
+  unfolding turns
+  unmarked n = rw (marked, ne_eqb (get_or text i 0) mark n) (by_test (eqb (get_or text (i - 1) 0) lf) (λ q. rw q) (λ q. rw q))
+
+  pub unturned : (get_or text (i - 1) 0 ≡ lf → ⊥) → turns (get_or text (i - 1) 0) (drop i text) ≡ false
+  unfolding turns
+  unturned n = rw (ne_eqb (get_or text (i - 1) 0) lf n)
 
 pub record Seeking (F : List ℕ → List ℕ) (text s : List ℕ) (i : ℕ) : Type 0 where
   pub within : i ≤ length text
   pub same : s ≡ F (drop i text)
 
-module _ (F : List ℕ → List ℕ) (text s : List ℕ) (i : ℕ) (p : Seeking F text s i) where
-  pub seek_all : F [] ≡ [] → length text ≤ i → Stands text s (length text)
-  seek_all e h = stands_end text s (p.same ∙ ap F (gone text i h) ∙ e)
-
-  module _ (h : i < length text) where
-    here : s ≡ F (get_or text i 0 ∷ drop (i + 1) text)
-    here = p.same ∙ ap F (cons text i h)
-
-    pub seek_none : F (get_or text i 0 ∷ drop (i + 1) text) ≡ [] → Stands text s (length text)
-    seek_none e = stands_end text s (here ∙ e)
-
-    pub seek_here : F (get_or text i 0 ∷ drop (i + 1) text) ≡ get_or text i 0 ∷ drop (i + 1) text → Stands text s i
-    seek_here e = record { within = omega arith; is = cons text i h ∙ sym (here ∙ e) }
-
-    pub seek_next : F (get_or text i 0 ∷ drop (i + 1) text) ≡ drop (i + 1) text → Stands text s (i + 1)
-    seek_next e = record { within = omega arith; is = sym (here ∙ e) }
-
-    pub seek_on : F (get_or text i 0 ∷ drop (i + 1) text) ≡ F (drop (i + 1) text) → Seeking F text s (i + 1)
-    seek_on e = record { within = omega arith; same = here ∙ e }
+-- it stands behind the byte at i
+pub seek_next : (F : List ℕ → List ℕ) (text s : List ℕ) (i : ℕ) → Seeking F text s i → i < length text
+    → F (get_or text i 0 ∷ drop (i + 1) text) ≡ drop (i + 1) text → Stands text s (i + 1)
+seek_next F text s i p h e = record { within = omega arith; is = sym (p.same ∙ ap F (cons text i h) ∙ e) }
 
 -- ---- the next header, sought by its mark: i stands one byte ahead
 
@@ -52,11 +68,6 @@ pub record Ahead (text s : List ℕ) (i : ℕ) : Type 0 where
   pub some : 0 < i
   pub within : i ≤ length text
   pub same : s ≡ rest_in (drop (i - 1) text)
-
-pub ahead_first : (text : List ℕ) (from : ℕ) → from < length text → Ahead text (rest_in (drop from text)) (from + 1)
-ahead_first text from h =
-    let e : from + 1 - 1 ≡ from = omega arith in
-    record { some = omega arith; within = omega arith; same = rw e }
 
 module _ (text s : List ℕ) (i : ℕ) (p : Ahead text s i) where
   -- the byte before, and the text from i on

@@ -1,7 +1,7 @@
 -- The full answer of the calls that find and read a record, and the lent room afterwards, for refused text too (02, request 1).
 -- Assumes nothing.
 use Rattle.std.specs.Prelude.{cond, List, ℕ, length}
-use Rattle.ring.specs.declared.judge.Verdict.{Verdict}
+use Rattle.ring.specs.Verdict.{Verdict}
 use Rattle.ring.specs.Judging.{verdict, taken, number_of, place_of, field, after}
 use Rattle.ring.specs.Answers.{fewer}
 use Rattle.fasta.specs.declared.answer.Part.{Part}

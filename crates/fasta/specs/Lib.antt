@@ -2,6 +2,7 @@
 pub mod Lines
 pub mod Parts
 pub mod Answers
+pub mod Told
 -- What the theorems of the demands speak of
 pub mod Calls
 pub mod Demands

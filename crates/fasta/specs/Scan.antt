@@ -1,9 +1,10 @@
 -- What `Lines` and `Parts` say, once more byte by byte, as a scan reads a text from within a line on.
 -- Assumes nothing.
-use Rattle.std.specs.Prelude.{◌≡◌, Bool, cond, not, ◌&&◌, ◌||◌, List, [], ◌∷◌, ℕ, ◌≤◌, ◌<◌, eqb, ltb, length, drop}
+use Rattle.std.specs.Prelude.{◌≡◌, Bool, cond, not, ◌&&◌, ◌||◌, List, [], ◌∷◌, ℕ, ◌≤◌, ◌<◌, eqb, ltb, length, take, drop, Option, Some, None}
 use Rattle.ring.specs.Judging.{first_bad}
 use Rattle.fasta.specs.Lines.{mark, lf, cr, begins, is_blank, upper}
 use Rattle.fasta.specs.Answers.{base_kind}
+use Rattle.fasta.specs.Bases.{bases_in}
 
 -- a line end begins at b, with t behind it
 unfoldable pub ends : ℕ → List ℕ → Bool
@@ -50,14 +51,15 @@ pub record HeaderLine (text : List ℕ) (m e : ℕ) : Type 0 where
   pub some : m < length text
   pub end : Stands text (end_in (drop m text)) e
 
--- the first letter that is no base, `absent` where all are bases
-unfoldable pub first_other : ℕ → List ℕ → ℕ
-first_other absent w = cond (ltb (first_bad base_kind w) (length w)) (first_bad base_kind w) absent
+-- the first letter that is no base, none where all are bases
+unfoldable pub first_other : List ℕ → Option ℕ
+first_other w = cond (ltb (first_bad base_kind w) (length w)) (Some (first_bad base_kind w)) None
 
--- what a scan from `from` on counts: the letters, the first that is no base (the text's length where all are bases), and where the next
--- header stands
-pub record Counts (text : List ℕ) (from n other rest : ℕ) : Type 0 where
-  pub size : n ≡ length (letters_in (drop from text))
-  pub few : n ≤ length text
-  pub first : other ≡ first_other (length text) (letters_in (drop from text))
-  pub remains : Stands text (rest_in (drop from text)) rest
+-- what a scan counts of the lines from a header's end on: the letters, the first that is no base, and where the next header stands; where
+-- all are bases, they are the bases of the bytes before that
+pub record Counts (lines : List ℕ) (n : ℕ) (other : Option ℕ) (rest : ℕ) : Type 0 where
+  pub size : n ≡ length (letters_in lines)
+  pub few : n ≤ length lines
+  pub first : other ≡ first_other (letters_in lines)
+  pub remains : Stands lines (rest_in lines) rest
+  pub bases : other ≡ None → bases_in (take rest lines) ≡ letters_in lines

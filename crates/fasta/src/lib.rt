@@ -9,6 +9,6 @@ mod parts;
 mod reader;
 mod scan;
 
-pub use answer::{Found, Part, Record};
+pub use answer::{Found, Part, Parts, Record, Refusal, Refused, Taken};
 pub use parts::{find, header, rest};
 pub use reader::record;

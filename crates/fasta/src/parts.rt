@@ -2,63 +2,46 @@
 ghost use Rattle.std.specs.Prelude.{◌≡◌, ◌+◌};
 ghost use Rattle.fasta.specs.Parts.{header_of, header_at, rest_of, rest_at};
 ghost use Rattle.fasta.specs.Answers.{found_of};
+ghost use Rattle.fasta.specs.Told.{told_found};
 
-use super::answer::{Found, Part};
-use super::scan::{find_header, line_end, next_header};
+use super::answer::{Part, Parts};
+use super::scan::{find_header, find_header_line, next_header};
 
-// The header line without its mark and its end; an empty part at the front where there is no record.
+// The header line without its mark and its end; an empty part at the front where there is no record, as 02 has it.
 pub fn header(text: &[u8]) -> &[u8]
-    ensures result_value { result.now ≡ header_of text.now }
-    ensures ref_ptr_value { (result.ref_ptr.0 ≡ text.entry.ref_ptr.0) × (result.ref_ptr.1 ≡ text.entry.ref_ptr.1 + header_at text.now) }
+    ensures value { result.now ≡ header_of text.now }
+    ensures place { (result.ref_ptr.0 ≡ text.entry.ref_ptr.0) × (result.ref_ptr.1 ≡ text.entry.ref_ptr.1 + header_at text.now) }
 {
-    let mark = find_header(text);
-    if text.len() <= mark {
+    let Some(head) = find_header_line(text) else {
         return &text[..0];
-    }
-    let end = line_end(text, mark);
-    let from = mark + 1;
-    &text[from..end]
+    };
+    &text[head.mark + 1..head.end]
 }
 
-// The text from the next header on; an empty part at the front where there is no record.
+// The text from the next header on; an empty part at the front where there is no record, as 02 has it.
 pub fn rest(text: &[u8]) -> &[u8]
-    ensures result_value { result.now ≡ rest_of text.now }
-    ensures ref_ptr_value { (result.ref_ptr.0 ≡ text.entry.ref_ptr.0) × (result.ref_ptr.1 ≡ text.entry.ref_ptr.1 + rest_at text.now) }
+    ensures value { result.now ≡ rest_of text.now }
+    ensures place { (result.ref_ptr.0 ≡ text.entry.ref_ptr.0) × (result.ref_ptr.1 ≡ text.entry.ref_ptr.1 + rest_at text.now) }
 {
-    let mark = find_header(text);
-    if text.len() <= mark {
+    let Some(mark) = find_header(text) else {
         return &text[..0];
-    }
-    let next = next_header(text, mark);
+    };
+    let next = mark + next_header(&text[mark..]);
     &text[next..]
 }
 
-// Where both stand; 8 where there is no record.
-pub fn find(text: &[u8]) -> Found
-    ensures { result ≡ found_of text.now }
+// Where both stand; none where there is no record. Each of the three says in a line where the next header stands: a function for it would have
+// the contract of `next_header` over again.
+pub fn find(text: &[u8]) -> Option<Parts>
+    ensures { told_found result ≡ found_of text.now }
 {
-    let mark = find_header(text);
-    if text.len() <= mark {
-        return Found {
-            number: 8,
-            place: 0,
-            header: Part { offset: 0, size: 0 },
-            rest: Part { offset: 0, size: 0 },
-        };
-    }
-    let begin = mark + 1;
-    let stop = line_end(text, mark);
-    let offset = next_header(text, mark);
-    Found {
-        number: 0,
-        place: 0,
-        header: Part {
-            offset: begin,
-            size: stop - begin,
-        },
+    let head = find_header_line(text)?;
+    let next = head.mark + next_header(&text[head.mark..]);
+    Some(Parts {
+        header: head.part(),
         rest: Part {
-            offset,
-            size: text.len() - offset,
+            offset: next,
+            size: text.len() - next,
         },
-    }
+    })
 }

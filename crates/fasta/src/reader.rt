@@ -1,75 +1,66 @@
 // The first record of a lent text, its letters written to a lent room.
 ghost use Rattle.std.specs.Prelude.{◌≡◌, length};
-ghost use Rattle.fasta.specs.Answers.{part, refused_with, record_of, record_room};
+ghost use Rattle.fasta.specs.Answers.{record_of, record_room};
 ghost use Rattle.fasta.specs.Scan.{HeaderLine};
+ghost use Rattle.fasta.specs.Told.{told_record};
 
-use super::answer::{Part, Record};
-use super::base::base_table;
+use super::answer::{FRONT, Part, Refusal, Refused, Taken};
+use super::base::Bases;
 use super::letters::{count, put};
-use super::scan::{find_header, line_end};
+use super::scan::{HeaderAt, find_header_line};
 
-// A record that is refused: its number and place, and where the text that remains stands.
-fn refused(number: u8, place: usize, offset: usize, size: usize) -> Record
-    ensures { result ≡ refused_with number place (part offset size) }
+// A record that is refused, and the text that remains.
+fn refused(refusal: Refusal, rest: Part) -> Result<Taken, Refused>
+    ensures { result ≡ Err (record { refusal = refusal; rest = rest }) }
 {
-    Record {
-        number,
-        place,
-        n: 0,
-        header: Part { offset: 0, size: 0 },
-        rest: Part { offset, size },
-    }
+    Err(Refused { refusal, rest })
 }
 
-// The record below a header line: 1, 2, 3, 4 by its letters, or the letters written to the room.
-fn read_letters(text: &[u8], mark: usize, end: usize, room: &mut [u8]) -> Record
-    requires { HeaderLine text.now mark end }
-    ensures value { result ≡ record_of text.now (length room.old) }
+// The record below a header line: refused by its letters, or the letters written to the room.
+fn read_letters(text: &[u8], head: HeaderAt, room: &mut [u8]) -> Result<Taken, Refused>
+    requires { HeaderLine text.now head.mark head.end }
+    ensures value { told_record result ≡ record_of text.now (length room.old) }
     ensures room_after { room.new ≡ record_room text.now room.old }
 {
-    let bases = base_table();
-    let counted = count(text, end, &bases);
+    let lines = &text[head.end..];
+    let bases = Bases::new();
+    let counted = count(lines, &bases);
     let n = counted.n;
-    let next = counted.rest;
-    let left = text.len() - next;
+    let offset = head.end + counted.rest;
+    let rest = Part {
+        offset,
+        size: text.len() - offset,
+    };
     if n == 0 {
-        return refused(1, 0, next, left);
+        return refused(Refusal::NoLetters, rest);
     }
     if ring::MOST < n {
-        return refused(2, 0, next, left);
+        return refused(Refusal::TooManyLetters, rest);
     }
-    if counted.other < text.len() {
-        return refused(3, counted.other, next, left);
+    if let Some(place) = counted.other {
+        return refused(Refusal::WrongLetter(place), rest);
     }
     if room.len() < n {
-        return refused(4, 0, next, left);
+        return refused(Refusal::NoRoom, rest);
     }
-    put(text, end, n, &bases, room);
-    let from = mark + 1;
-    Record {
-        number: 0,
-        place: 0,
+    put(&lines[..counted.rest], &bases, room);
+    Ok(Taken {
         n,
-        header: Part {
-            offset: from,
-            size: end - from,
-        },
-        rest: Part {
-            offset: next,
-            size: left,
-        },
-    }
+        header: head.part(),
+        rest,
+    })
 }
 
-// Writes the letters to the room's front, and answers where the header and the text that remains stand: 8, then 1, 2, 3, 4.
-pub fn record(text: &[u8], room: &mut [u8]) -> Record
-    ensures value { result ≡ record_of text.now (length room.old) }
+// Writes the letters to the room's front, and answers where the header and the text that remains stand, or why the record is refused: no
+// record first, then no letters, too many, a letter that is no base, a short room.
+pub fn record(text: &[u8], room: &mut [u8]) -> Result<Taken, Refused>
+    ensures value { told_record result ≡ record_of text.now (length room.old) }
     ensures room_after { room.new ≡ record_room text.now room.old }
 {
-    let mark = find_header(text);
-    if text.len() <= mark {
-        return refused(8, 0, 0, 0);
-    }
-    let end = line_end(text, mark);
-    read_letters(text, mark, end, room)
+    let none = Refused {
+        refusal: Refusal::NoRecord,
+        rest: FRONT,
+    };
+    let head = find_header_line(text).ok_or(none)?;
+    read_letters(text, head, room)
 }

@@ -1,47 +1,42 @@
 // Every byte at one place of a text: which bytes give which number.
-use shown::{Out, front, labelled, letters, line};
+use fasta::Record;
+use shown::Out;
 
-// A byte, and the letters kept with it.
-fn with_letters(out: &mut Out, b: u8, room: &[u8], n: usize) {
-    let one = [b];
-    letters(out, &one);
-    if 0 < n {
-        front(out, room, n);
-    }
-}
-
-// The byte `b` at `at`, shown where the text then gives `number`.
+// The byte `b` at `at`, with the letters kept, where the text then gives `number`.
 fn given(out: &mut Out, text: &mut [u8], at: usize, b: u8, number: u8) {
-    if text.len() <= at {
+    if let Some(place) = text.get_mut(at) {
+        *place = b;
+    }
+    let mut room = [b'.'; 8];
+    let record = Record::from(fasta::record(text, &mut room));
+    if record.number != number {
         return;
     }
-    text[at] = b;
-    let mut room = [b'.'; 8];
-    let r = fasta::record(text, &mut room);
-    if r.number == number {
-        with_letters(out, b, &room, r.n);
+    out.letters(&[b]);
+    match room.get(..record.n) {
+        Some(kept) if !kept.is_empty() => out.letters(kept),
+        _ => {}
     }
 }
 
 // The bytes that give `number` at `at`.
 fn giving(out: &mut Out, text: &mut [u8], at: usize, number: u8) {
-    labelled(out, b"number", number as usize);
-    shown::text(out, b" :");
+    out.labelled(b"number", number);
+    out.text(b" :");
     for b in 0..=255 {
         given(out, text, at, b, number);
     }
-    line(out);
+    out.line();
 }
 
 // The text, and the bytes that give each number at `at`.
 fn each(out: &mut Out, text: &mut [u8], at: usize) {
-    shown::text(out, b"Every byte for ? in");
-    letters(out, text);
-    line(out);
-    giving(out, text, at, 0);
-    giving(out, text, at, 1);
-    giving(out, text, at, 3);
-    giving(out, text, at, 8);
+    out.text(b"Every byte for ? in");
+    out.letters(text);
+    out.line();
+    for number in [0, 1, 3, 8] {
+        giving(out, text, at, number);
+    }
 }
 
 // A line of one byte, ended by LF.

@@ -3,8 +3,14 @@ use super::walk::walk;
 use ring::MOST;
 use shown::Out;
 
+// A line of one blank, and a header.
+const FRONT: &[u8; 5] = b" \n>a\n";
+
+// A line's end, and a record of two letters.
+const BACK: &[u8; 7] = b"\n>b\nGT\n";
+
 // Where the first of MOST + 1 letters stands, behind the header.
-const FIRST: usize = 5;
+const FIRST: usize = FRONT.len();
 
 // Where the last of them stands, in lines of 60.
 const LAST: usize = FIRST + MOST + MOST / 60;
@@ -13,48 +19,27 @@ const LAST: usize = FIRST + MOST + MOST / 60;
 const END: usize = LAST + 1;
 
 // The bytes of the whole text.
-const SIZE: usize = END + 7;
+const SIZE: usize = END + BACK.len();
 
-// The letter at `i` of a line.
-fn base(i: usize) -> u8 {
-    match i % 4 {
-        0 => b'A',
-        1 => b'c',
-        2 => b'G',
+// The byte at `i` of lines of 60 letters, A, c, G and t by turns, each line ended by LF.
+fn row(i: usize) -> u8 {
+    match (i % 61, i % 4) {
+        (60, _) => b'\n',
+        (_, 0) => b'A',
+        (_, 1) => b'c',
+        (_, 2) => b'G',
         _ => b't',
     }
-}
-
-// The byte at `i` of lines of 60 letters, each ended by LF.
-fn row(i: usize) -> u8 {
-    if i % 61 == 60 {
-        return b'\n';
-    }
-    base(i)
-}
-
-// The byte at `i` of the text: a header behind a line of one blank, such lines, and a record of two letters.
-fn byte(i: usize) -> u8 {
-    if i < FIRST {
-        let front = *b" \n>a\n";
-        return front[i];
-    }
-    if i < END {
-        return row(i - FIRST);
-    }
-    if i < SIZE {
-        let back = *b"\n>b\nGT\n";
-        return back[i - END];
-    }
-    b' '
 }
 
 // The text as an array.
 fn laid() -> [u8; SIZE] {
     let mut text = [b' '; SIZE];
-    for i in 0..SIZE {
-        text[i] = byte(i);
+    text[..FIRST].copy_from_slice(FRONT);
+    for (i, letter) in text[FIRST..END].iter_mut().enumerate() {
+        *letter = row(i);
     }
+    text[END..].copy_from_slice(BACK);
     text
 }
 

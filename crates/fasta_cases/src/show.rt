@@ -1,92 +1,67 @@
 // One text and one room: what every call answers, and the parts that it hands back.
 use fasta::{Found, Part, Record};
-use shown::{Out, bar, front, labelled, letters, line, middle, number, outcome};
+use shown::{Out, middle};
 
-// A bar, and where a part stands: its offset and its size.
-fn part(out: &mut Out, p: Part) {
-    bar(out);
-    number(out, p.offset);
-    number(out, p.size);
-}
-
-// Number, place and n, and where the header and the rest stand.
-pub fn record(out: &mut Out, r: Record) {
-    outcome(out, r.number, r.place);
-    number(out, r.n);
-    let header = r.header;
-    part(out, header);
-    let rest = r.rest;
-    part(out, rest);
-}
-
-// Number and place, and where the header and the rest stand.
-fn found(out: &mut Out, f: Found) {
-    outcome(out, f.number, f.place);
-    let header = f.header;
-    part(out, header);
-    let rest = f.rest;
-    part(out, rest);
-}
+// The bytes of a room. A call asks where it lends: a `requires` would ask every case of a loop for its size.
+const ROOM: usize = 30;
 
 // The bytes of a part of a text.
-fn cut(out: &mut Out, text: &[u8], p: Part) {
-    let from = p.offset;
-    let size = p.size;
-    if text.len() < from {
-        return;
+fn cut(out: &mut Out, text: &[u8], part: Part) {
+    let end = part.offset.saturating_add(part.size);
+    if let Some(bytes) = text.get(part.offset..end) {
+        out.letters(bytes);
     }
-    if text.len() - from < size {
-        return;
-    }
-    let end = from + size;
-    letters(out, &text[from..end]);
 }
 
 // The record in a room of `size` bytes, and the room with a byte before the lent ones and one behind.
 fn read(out: &mut Out, text: &[u8], size: usize) {
-    if 28 < size {
+    if ROOM - 2 < size {
         return;
     }
-    let mut room = [b'.'; 30];
-    shown::text(out, b"record");
-    record(out, fasta::record(text, middle(&mut room, size)));
-    shown::text(out, b" :");
-    front(out, &room, size + 2);
-    line(out);
+    let mut room = [b'.'; ROOM];
+    let record = fasta::record(text, middle(&mut room, size));
+    out.labelled(b"record", Record::from(record));
+    out.text(b" :");
+    out.letters(&room[..size + 2]);
+    out.line();
 }
 
 // Where `find` says that the parts stand, and the bytes there.
 fn find(out: &mut Out, text: &[u8]) {
-    shown::text(out, b"find");
-    let f = fasta::find(text);
-    found(out, f);
-    shown::text(out, b" :");
-    let header = f.header;
-    cut(out, text, header);
-    bar(out);
-    let rest = f.rest;
-    cut(out, text, rest);
-    line(out);
+    let found = Found::from(fasta::find(text));
+    out.labelled(b"find", found);
+    out.text(b" :");
+    cut(out, text, found.header);
+    out.bar();
+    cut(out, text, found.rest);
+    out.line();
 }
 
 // The parts as `header` and `rest` hand them back.
 fn parts(out: &mut Out, text: &[u8]) {
-    shown::text(out, b"header");
-    letters(out, fasta::header(text));
-    shown::text(out, b" | rest");
-    letters(out, fasta::rest(text));
-    line(out);
+    out.text(b"header");
+    out.letters(fasta::header(text));
+    out.text(b" | rest");
+    out.letters(fasta::rest(text));
+    out.line();
 }
 
 // What the case shows, the text and the room's size, and what the calls give.
-pub fn case(out: &mut Out, what: &[u8], text: &[u8], size: usize) {
-    shown::text(out, what);
-    line(out);
-    shown::text(out, b"text");
-    letters(out, text);
-    labelled(out, b" room", size);
-    line(out);
+fn case(out: &mut Out, what: &[u8], text: &[u8], size: usize) {
+    out.text(what);
+    out.line();
+    out.text(b"text");
+    out.letters(text);
+    out.labelled(b" room", size);
+    out.line();
     read(out, text, size);
     find(out, text);
     parts(out, text);
+}
+
+// Cases one after another: what each shows, its text and its room's size.
+pub fn cases(out: &mut Out, all: &[(&[u8], &[u8], usize)]) {
+    for &(what, text, size) in all {
+        case(out, what, text, size);
+    }
 }

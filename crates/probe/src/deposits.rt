@@ -3,7 +3,8 @@ ghost use Rattle.std.specs.Prelude.{◌≡◌, length};
 ghost use Rattle.ring.specs.Answers.{key_marks_of, deposited_of, deposit_room};
 ghost use Rattle.probe.specs.Told.{told, marked_fields};
 
-use super::tell;
+use super::tell::tell;
+use ring::Marked;
 
 #[unsafe(no_mangle)]
 pub extern "C" fn probe_check_key(
@@ -16,7 +17,8 @@ pub extern "C" fn probe_check_key(
     ensures value { result ≡ (key_marks_of kind letters.now start strand).number }
     ensures values_after { values.new ≡ told (marked_fields (key_marks_of kind letters.now start strand)) values.old }
 {
-    tell::marks(values, ring::check_key(letters, kind, start, strand))
+    let marked = Marked::from(ring::check_key(letters, kind, start, strand));
+    tell(values, &marked)
 }
 
 #[unsafe(no_mangle)]
@@ -32,8 +34,6 @@ pub extern "C" fn probe_write_deposit(
     ensures values_after { values.new ≡ told (marked_fields (deposited_of kind letters.now start strand (length room.old))) values.old }
     ensures room_after { room.new ≡ deposit_room kind letters.now start strand room.old }
 {
-    tell::marks(
-        values,
-        ring::write_deposit(letters, kind, start, strand, room),
-    )
+    let marked = Marked::from(ring::write_deposit(letters, kind, start, strand, room));
+    tell(values, &marked)
 }

@@ -1,24 +1,18 @@
 // The key of a ring, its letters written, and the comparison.
-ghost use Rattle.std.specs.Prelude.{◌≡◌, cond, length};
+ghost use Rattle.std.specs.Prelude.{◌≡◌, length};
 ghost use Rattle.words.specs.Keys.Kind.{strands};
 ghost use Rattle.ring.specs.Answers.{marked_of, refusal_of, lettered_of, lettered_room, keyed_of, first_room, second_room, key_part, compared_of};
 ghost use Rattle.probe.specs.Told.{told, marked_fields, compared_fields, key_fields};
 
-use super::tell;
-
-// A yes is told as 1, a no as 0.
-fn yes(t: bool) -> u8
-    ensures { result ≡ cond t 1 0 }
-{
-    if t { 1 } else { 0 }
-}
+use super::tell::{put, tell};
+use ring::{Compared, Marked};
 
 #[unsafe(no_mangle)]
 pub extern "C" fn probe_mark(kind: u8, ring: &[u8], values: &mut [u64]) -> u8
     ensures value { result ≡ (marked_of kind ring.now).number }
     ensures values_after { values.new ≡ told (marked_fields (marked_of kind ring.now)) values.old }
 {
-    tell::marks(values, ring::mark(ring, kind))
+    tell(values, &Marked::from(ring::mark(ring, kind)))
 }
 
 // A refused answer with this number and place.
@@ -27,7 +21,7 @@ pub extern "C" fn probe_refusal(number: u8, place: usize, values: &mut [u64]) ->
     ensures value { result ≡ (refusal_of number place).number }
     ensures values_after { values.new ≡ told (marked_fields (refusal_of number place)) values.old }
 {
-    tell::marks(values, ring::refusal(number, place))
+    tell(values, &ring::refusal(number, place))
 }
 
 #[unsafe(no_mangle)]
@@ -41,7 +35,7 @@ pub extern "C" fn probe_write_letters(
     ensures values_after { values.new ≡ told (marked_fields (lettered_of kind ring.now (length room.old))) values.old }
     ensures room_after { room.new ≡ lettered_room kind ring.now room.old }
 {
-    tell::marks(values, ring::write_letters(ring, kind, room))
+    tell(values, &Marked::from(ring::write_letters(ring, kind, room)))
 }
 
 #[unsafe(no_mangle)]
@@ -57,7 +51,8 @@ pub extern "C" fn probe_write_key(
     ensures first_after { first.new ≡ first_room kind ring.now first.old (length second.old) }
     ensures second_after { second.new ≡ second_room kind ring.now (length first.old) second.old }
 {
-    tell::marks(values, ring::write_key(ring, kind, first, second))
+    let marked = Marked::from(ring::write_key(ring, kind, first, second));
+    tell(values, &marked)
 }
 
 // The part is told by its room, 0 the first and 1 the second, and by its length; it stands at the front of its room.
@@ -72,11 +67,10 @@ pub extern "C" fn probe_key(
     ensures value { result ≡ (keyed_of kind ring.now (length first.old) (length second.old)).number }
     ensures values_after { values.new ≡ told (key_fields (keyed_of kind ring.now (length first.old) (length second.old)) (key_part kind ring.now (length first.old) (length second.old))) values.old }
 {
-    let a = ring::write_key(ring, kind, first, second);
-    let part = ring::key(ring, kind, first, second);
-    let size = part.len();
-    tell::tell(values, &[a.strand as u64, size as u64]);
-    a.number
+    let marked = Marked::from(ring::write_key(ring, kind, first, second));
+    let size = ring::key(ring, kind, first, second).len();
+    put(values, &[u64::from(marked.strand), size as u64]);
+    marked.number
 }
 
 // How many strands rings of a kind have, 0 for a kind that is none.
@@ -92,7 +86,5 @@ pub extern "C" fn probe_compare(kind: u8, first: &[u8], second: &[u8], values: &
     ensures value { result ≡ (compared_of kind first.now second.now).number }
     ensures values_after { values.new ≡ told (compared_fields (compared_of kind first.now second.now)) values.old }
 {
-    let a = ring::compare(first, second, kind);
-    tell::tell(values, &[a.place as u64, a.ring as u64, yes(a.same) as u64]);
-    a.number
+    tell(values, &Compared::from(ring::compare(first, second, kind)))
 }

@@ -4,6 +4,7 @@
 // part stands and its length. Those of `parts` hand back the part itself, by its address and length.
 #![tactic(auto)]
 
+mod answers;
 mod deposits;
 mod keys;
 mod parts;

@@ -3,7 +3,7 @@ ghost use Rattle.std.specs.Prelude.{◌≡◌, length};
 ghost use Rattle.report.specs.Report.{report_length, report_room};
 ghost use Rattle.probe.specs.Told.{told, length_fields};
 
-use super::tell;
+use super::tell::put;
 
 #[unsafe(no_mangle)]
 pub extern "C" fn probe_report(input: &[u8], room: &mut [u8], values: &mut [u64]) -> u8
@@ -12,6 +12,6 @@ pub extern "C" fn probe_report(input: &[u8], room: &mut [u8], values: &mut [u64]
     ensures room_after { room.new ≡ report_room input.now room.old }
 {
     let size = report::report(input, room);
-    tell::tell(values, &[size as u64]);
+    put(values, &[size as u64]);
     0
 }

@@ -3,16 +3,15 @@ ghost use Rattle.std.specs.Prelude.{◌≡◌, length};
 ghost use Rattle.ring.specs.Answers.{checked_of, factored_of, factored_table, filled_of, suffixes_table, starts_table, fought_of, repeated_of};
 ghost use Rattle.probe.specs.Told.{told, checked_fields, factored_fields, fought_fields, repeated_fields};
 
-use super::tell;
+use super::tell::tell;
+use ring::{Checked, Factored, Fought, Repeated};
 
 #[unsafe(no_mangle)]
 pub extern "C" fn probe_check(kind: u8, ring: &[u8], values: &mut [u64]) -> u8
     ensures value { result ≡ (checked_of kind ring.now).number }
     ensures values_after { values.new ≡ told (checked_fields (checked_of kind ring.now)) values.old }
 {
-    let a = ring::check(ring, kind);
-    tell::tell(values, &[a.place as u64]);
-    a.number
+    tell(values, &Checked::from(ring::check(ring, kind)))
 }
 
 #[unsafe(no_mangle)]
@@ -21,9 +20,7 @@ pub extern "C" fn probe_factors(kind: u8, ring: &[u8], table: &mut [u16], values
     ensures values_after { values.new ≡ told (factored_fields (factored_of kind ring.now (length table.old))) values.old }
     ensures table_after { table.new ≡ factored_table kind ring.now table.old }
 {
-    let a = ring::factors(ring, kind, table);
-    tell::tell(values, &[a.place as u64, a.count as u64, a.start as u64]);
-    a.number
+    tell(values, &Factored::from(ring::factors(ring, kind, table)))
 }
 
 #[unsafe(no_mangle)]
@@ -32,9 +29,7 @@ pub extern "C" fn probe_suffixes(kind: u8, ring: &[u8], table: &mut [u16], value
     ensures values_after { values.new ≡ told (checked_fields (filled_of kind ring.now (length table.old))) values.old }
     ensures table_after { table.new ≡ suffixes_table kind ring.now table.old }
 {
-    let a = ring::suffixes(ring, kind, table);
-    tell::tell(values, &[a.place as u64]);
-    a.number
+    tell(values, &Checked::from(ring::suffixes(ring, kind, table)))
 }
 
 #[unsafe(no_mangle)]
@@ -43,9 +38,7 @@ pub extern "C" fn probe_starts(kind: u8, ring: &[u8], table: &mut [u16], values:
     ensures values_after { values.new ≡ told (checked_fields (filled_of kind ring.now (length table.old))) values.old }
     ensures table_after { table.new ≡ starts_table kind ring.now table.old }
 {
-    let a = ring::starts(ring, kind, table);
-    tell::tell(values, &[a.place as u64]);
-    a.number
+    tell(values, &Checked::from(ring::starts(ring, kind, table)))
 }
 
 #[unsafe(no_mangle)]
@@ -53,9 +46,7 @@ pub extern "C" fn probe_duel(kind: u8, ring: &[u8], values: &mut [u64]) -> u8
     ensures value { result ≡ (fought_of kind ring.now).number }
     ensures values_after { values.new ≡ told (fought_fields (fought_of kind ring.now)) values.old }
 {
-    let a = ring::duel(ring, kind);
-    tell::tell(values, &[a.place as u64, a.start as u64, a.pairs as u64]);
-    a.number
+    tell(values, &Fought::from(ring::duel(ring, kind)))
 }
 
 #[unsafe(no_mangle)]
@@ -63,7 +54,5 @@ pub extern "C" fn probe_repeat(kind: u8, ring: &[u8], values: &mut [u64]) -> u8
     ensures value { result ≡ (repeated_of kind ring.now).number }
     ensures values_after { values.new ≡ told (repeated_fields (repeated_of kind ring.now)) values.old }
 {
-    let a = ring::repeat(ring, kind);
-    tell::tell(values, &[a.place as u64, a.repeat as u64]);
-    a.number
+    tell(values, &Repeated::from(ring::repeat(ring, kind)))
 }

@@ -5,7 +5,9 @@ ghost use Rattle.sheet.specs.Reader.{entry_of, part_of, original_of, original_ro
 ghost use Rattle.sheet.specs.Book.{walked_of};
 ghost use Rattle.probe.specs.Told.{told, marked_fields, checked_fields, entry_fields, part_fields, walked_fields};
 
-use super::tell;
+use super::tell::{put, tell};
+use ring::{Checked, Marked};
+use sheet::{Entry, Walked};
 
 #[unsafe(no_mangle)]
 pub extern "C" fn probe_sheet_write(
@@ -18,7 +20,7 @@ pub extern "C" fn probe_sheet_write(
     ensures values_after { values.new ≡ told (marked_fields (written_of kind ring.now (length room.old))) values.old }
     ensures room_after { room.new ≡ written_room kind ring.now room.old }
 {
-    tell::marks(values, sheet::write(ring, kind, room))
+    tell(values, &Marked::from(sheet::write(ring, kind, room)))
 }
 
 #[unsafe(no_mangle)]
@@ -26,20 +28,7 @@ pub extern "C" fn probe_sheet_read(bytes: &[u8], values: &mut [u64]) -> u8
     ensures value { result ≡ (entry_of bytes.now).marked.number }
     ensures values_after { values.new ≡ told (entry_fields (entry_of bytes.now)) values.old }
 {
-    let a = sheet::read(bytes);
-    let m = a.marked;
-    tell::tell(
-        values,
-        &[
-            m.place as u64,
-            m.n as u64,
-            m.start as u64,
-            m.strand as u64,
-            a.kind as u64,
-            a.before as u64,
-        ],
-    );
-    m.number
+    tell(values, &Entry::from(sheet::read(bytes)))
 }
 
 // The part is told by its offset from the front of the bytes and by its length; the number is that of the reading.
@@ -48,12 +37,10 @@ pub extern "C" fn probe_sheet_letters(bytes: &[u8], values: &mut [u64]) -> u8
     ensures value { result ≡ (entry_of bytes.now).marked.number }
     ensures values_after { values.new ≡ told (part_fields (entry_of bytes.now) (part_of bytes.now)) values.old }
 {
-    let a = sheet::read(bytes);
-    let m = a.marked;
-    let part = sheet::letters(bytes);
-    let size = part.len();
-    tell::tell(values, &[a.before as u64, size as u64]);
-    m.number
+    let entry = Entry::from(sheet::read(bytes));
+    let size = sheet::letters(bytes).len();
+    put(values, &[entry.before as u64, size as u64]);
+    entry.marked.number
 }
 
 #[unsafe(no_mangle)]
@@ -62,9 +49,15 @@ pub extern "C" fn probe_sheet_original(bytes: &[u8], room: &mut [u8], values: &m
     ensures values_after { values.new ≡ told (checked_fields (original_of bytes.now (length room.old))) values.old }
     ensures room_after { room.new ≡ original_room bytes.now room.old }
 {
-    let a = sheet::original(bytes, room);
-    tell::tell(values, &[a.place as u64]);
-    a.number
+    // `Checked` is the ring's, and so no crate but the ring's gives a `From` of a `Result` for it.
+    let checked = match sheet::original(bytes, room) {
+        Ok(()) => Checked {
+            number: 0,
+            place: 0,
+        },
+        Err(refusal) => Checked::from(refusal),
+    };
+    tell(values, &checked)
 }
 
 #[unsafe(no_mangle)]
@@ -72,7 +65,5 @@ pub extern "C" fn probe_sheet_walk(book: &[u8], values: &mut [u64]) -> u8
     ensures value { result ≡ (walked_of book.now).number }
     ensures values_after { values.new ≡ told (walked_fields (walked_of book.now)) values.old }
 {
-    let a = sheet::walk(book);
-    tell::tell(values, &[a.place as u64, a.sheets as u64]);
-    a.number
+    tell(values, &Walked::from(sheet::walk(book)))
 }

@@ -13,4 +13,4 @@ use Rattle.report.proofs.whole.report.Reads as report-reads
 
 pub report_determined : (κs : Lifetimes.Lfts 2) (a : World.ArgsD report.signature κs) (r s : World.ResD report.signature κs) (e f : Clauses.AtExit (Fn.ended_of 2 report-kinds.ps report-kinds.r) κs)
     → report-reads.Post κs a r e → report-reads.Post κs a s f → (r ≡ s) × (e.1.0.now ≡ f.1.0.now)
-report_determined κs a r s e f p q = (promised_one p.0 q.0, promised_one p.1 q.1)
+report_determined κs a r s e f p q = (promised_one p.0 q.0, promised_one p.1.0 q.1.0)

@@ -1,16 +1,17 @@
 -- Numbers written in a row, one after another.
 -- Assumes nothing.
 use mathlib.Core.Path.{◌≡◌, refl, sym, ap, ◌∙◌}
-use mathlib.Core.List.{List, [], ◌∷◌, ◌++◌, append-nil, append_assoc}
+use mathlib.Core.List.{List, [], ◌∷◌, ◌++◌, append_assoc}
 use Prim.Native.Nat.{ℕ, suc, ◌≤◌, ◌<◌, ◌+◌, ◌-◌}
 use native.Mathlib.Omega.{arith}
 use native.Mathlib.Numerals.{add-one}
 use borrow.Rule.Slice.PartMut.{put_mid}
-use lib.ListN.{length, take, drop, set, get_or, length-append, length-drop}
+use lib.ListN.{length, take, drop, set, get_or, length-append, length-drop, length-take}
 use lib.Seq.{drop-cons, drop-length}
 use Rattle.ring.specs.Judging.{over}
-use Rattle.ring.proofs.Laid.{Laid, laid_none, laid_one, laid_part, laid_size}
+use Rattle.ring.proofs.Laid.{Laid, laid_one, laid_part, laid_size}
 use Rattle.report.specs.Decimal.{decimal, row, row_room}
+use Rattle.report.specs.Report.{longest, table_room}
 
 row_last : (end x : ℕ) (r : List ℕ) → r ≡ [] → row end (x ∷ r) ≡ decimal x ++ (end ∷ row end r)
 row_last end x r e = rw e
@@ -27,9 +28,6 @@ pub record Rowed (o t xs : List ℕ) (end at i : ℕ) : Type 0 where
   pub same : row end xs ≡ written ++ row end (drop i xs)
   pub within : i ≤ length xs
   pub few : at ≤ row_room i
-
-pub rowed_none : (o xs : List ℕ) (end : ℕ) → Rowed o o xs end 0 0
-rowed_none o xs end = record { written = []; laid = laid_none o; size = refl; same = refl; within = omega arith; few = omega arith }
 
 -- the byte behind number i
 pub data Between (xs : List ℕ) (end i : ℕ) : ℕ → Type 0 where
@@ -60,8 +58,9 @@ module _ (o t xs : List ℕ) (end at i : ℕ) (k : Rowed o t xs end at i) (h : i
           few = omega (arith, k.few);
         }
 
-pub rowed_all : (o t xs : List ℕ) (end at i : ℕ) → Rowed o t xs end at i → length xs ≤ i → (at ≡ length (row end xs)) × (t ≡ over (row end xs) o)
-rowed_all o t xs end at i k h =
-    let e : i ≡ length xs = omega (arith, k.within) in
-    let q : row end xs ≡ k.written = k.same ∙ rw (e, drop-length, append-nil) in
-    (sym (ap length q ∙ k.size), k.laid.is ∙ rw (← q))
+-- a table's front, printed as a line
+pub table_row : (table new o t : List ℕ) (n r : ℕ) → take n table ≡ new → length table ≡ longest → (r ≡ length (row 10 (take n table))) × (r ≤ row_room (length (take n table))) → t ≡ over (row 10 (take n table)) o
+    → (r ≡ length (row 10 new)) × (length (row 10 new) ≤ table_room) × (t ≡ over (row 10 new) o)
+table_row table new o t n r e h v q =
+    let a : r ≡ length (row 10 new) = rw e at v.0 in
+    (a, omega (arith, v.1, length-take {A = ℕ}), rw e at q)

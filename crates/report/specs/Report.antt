@@ -7,7 +7,7 @@ use Rattle.words.specs.Factors.Factor.{factor_table}
 use Rattle.words.specs.Suffixes.Prefix.{suffix_table, start_table}
 use Rattle.words.specs.Repeats.Repeat.{repeat}
 use Rattle.words.specs.Duels.Duel.{pairs}
-use Rattle.ring.specs.declared.judge.Verdict.{Verdict}
+use Rattle.ring.specs.Verdict.{Verdict}
 use Rattle.ring.specs.Judging.{Permitted, verdict, taken, number_of, place_of, over}
 use Rattle.report.specs.Decimal.{row, row_room}
 

@@ -1,74 +1,55 @@
 // Numbers in decimal.
-ghost use Rattle.std.specs.Prelude.{◌≡◌, ◌<◌, ◌≤◌, length};
+ghost use Rattle.std.specs.Prelude.{◌≡◌, ◌≤◌, length};
 ghost use Rattle.ring.specs.Judging.{over};
 ghost use Rattle.report.specs.Decimal.{decimal, padded, row, row_room};
 ghost use Rattle.report.specs.Report.{longest};
 
 // How many digits a number has.
-fn width(x: usize) -> usize
-    requires { x < 100000 }
+fn width(x: u16) -> usize
     ensures { (result ≤ 5) × (decimal x ≡ padded result x) }
 {
-    if x < 10 {
-        return 1;
+    match x {
+        0..=9 => 1,
+        10..=99 => 2,
+        100..=999 => 3,
+        1000..=9999 => 4,
+        _ => 5,
     }
-    if x < 100 {
-        return 2;
-    }
-    if x < 1000 {
-        return 3;
-    }
-    if x < 10000 {
-        return 4;
-    }
-    5
 }
 
-// Writes `k` digits of a number to the front of a room, from the last to the first.
-fn put_digits(room: &mut [u8], x: usize, k: usize)
-    requires { k ≤ length room.old }
-    ensures { room.new ≡ over (padded k x) room.old }
+// Fills a room with the digits of a number, from the last to the first; by place, since what is left to write is known by it.
+fn put_digits(room: &mut [u8], x: u16)
+    ensures { room.new ≡ padded (length room.old) x }
 {
-    let mut i = k;
     let mut rest = x;
-    while 0 < i {
-        i -= 1;
-        room[i] = 48 + (rest % 10) as u8;
-        rest = rest / 10;
+    for i in (0..room.len()).rev() {
+        room[i] = b'0' + (rest % 10) as u8;
+        rest /= 10;
     }
 }
 
 // Writes a number to the front of a room, and answers how many bytes it takes.
-fn put_number(room: &mut [u8], x: usize) -> usize
-    requires { (x < 100000) × (5 ≤ length room.old) }
+fn put_number(room: &mut [u8], x: u16) -> usize
+    requires { 5 ≤ length room.old }
     ensures value { (result ≡ length (decimal x)) × (result ≤ 5) }
     ensures room_after { room.new ≡ over (decimal x) room.old }
 {
     let k = width(x);
-    put_digits(room, x, k);
+    put_digits(&mut room[..k], x);
     k
 }
 
-// An entry of a table as a number to count with.
-fn wide(x: u16) -> usize
-    ensures { result ≡ x }
-{
-    x as usize
-}
-
-// Writes numbers with a space between and `end` behind the last to the front of a room, and answers how many bytes they take.
+// Writes numbers with a space between and `end` behind the last to the front of a room, and answers how many bytes they take. A struct of a room
+// and how much of it is written would be no plainer: each of its methods would promise besides that it keeps the room it was lent.
 pub fn put_row(room: &mut [u8], numbers: &[u16], end: u8) -> usize
     requires { (row_room (length numbers.now) ≤ length room.old) × (length numbers.now ≤ longest) }
     ensures value { (result ≡ length (row end numbers.now)) × (result ≤ row_room (length numbers.now)) }
     ensures room_after { room.new ≡ over (row end numbers.now) room.old }
 {
-    let n = numbers.len();
     let mut at = 0;
-    let mut i = 0;
-    while i < n {
-        at += put_number(&mut room[at..], wide(numbers[i]));
-        i += 1;
-        room[at] = if i == n { end } else { 32 };
+    for (i, &x) in numbers.iter().enumerate() {
+        at += put_number(&mut room[at..], x);
+        room[at] = if i + 1 == numbers.len() { end } else { b' ' };
         at += 1;
     }
     at

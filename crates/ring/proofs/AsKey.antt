@@ -9,8 +9,8 @@ use native.Mathlib.Omega.{arith}
 use lib.ListN.{length}
 use borrow.Author.Tests.{eq-eqb, ne_eqb}
 use Rattle.words.proofs.Order.Search.{by_test, either, lt_or_ge}
-use Rattle.ring.specs.declared.judge.Verdict.{Verdict}
-use Rattle.ring.specs.declared.judge.Verdict.TheVariants.{Taken, Short, NotKey}
+use Rattle.ring.specs.Verdict.{Verdict}
+use Rattle.ring.specs.Verdict.{Taken, Short, NotKey}
 use Rattle.ring.specs.Rule.{Rule, rule}
 use Rattle.ring.specs.Judging.{Permitted, number_of, place_of, taken, verdict}
 use Rattle.ring.specs.Answers.{fewer, IsKey, is_key, as_key, deposit_verdict}

@@ -15,9 +15,6 @@ use Rattle.words.proofs.Order.Search.{either, by_test}
 use Rattle.words.proofs.Keys.Strand.{length-strand}
 use Rattle.words.proofs.Rings.Turn.{length-lowest}
 use Rattle.words.proofs.Keys.Molecule.{one_key, one_ring, one_lowest, lowest_one}
-use Rattle.ring.specs.declared.judge.Verdict.{Verdict}
-use Rattle.ring.specs.declared.judge.Verdict.TheVariants.{Taken}
-use Rattle.ring.specs.declared.answer.Compared.{Compared}
 use Rattle.ring.specs.Judging.{Permitted, Given, unknown, none, many, letter, lacking, done, verdict, taken, number_of, place_of}
 use Rattle.ring.specs.Answers.{equal, same_key, compared_of}
 use Rattle.ring.specs.Demands.{GivenOf, first, second, both}
@@ -71,21 +68,6 @@ module _ (u v : List ℕ) (a b : ℕ) (x : a ≡ start u) (y : b ≡ start v) wh
   pub read_differ : equal (reading u a) (reading v b) ≡ false → lowest u ≡ lowest v → ⊥
   unfolding lowest
   read_differ e f = let g : reading u a ≡ reading v b = rw (x, y) f in true≢false (sym (equal_true g) ∙ e)
-
--- ---- the answer by the two verdicts
-
-module _ (kind : ℕ) (u v : List ℕ) (a : Verdict) (e : a ≡ verdict kind u false) where
-  pub compared_first : taken a ≡ false → (n p : ℕ) → n ≡ number_of a → p ≡ place_of a
-      → ◌≡◌ {A = Compared} (record { number = n; place = p; ring = 1; same = false }) (compared_of kind u v)
-  compared_first h n p f g = rw (← e, h, f, g)
-
-  module _ (h : a ≡ Taken) (b : Verdict) (f : b ≡ verdict kind v false) where
-    pub compared_second : taken b ≡ false → (n p : ℕ) → n ≡ number_of b → p ≡ place_of b
-        → ◌≡◌ {A = Compared} (record { number = n; place = p; ring = 2; same = false }) (compared_of kind u v)
-    compared_second k n p i j = rw (← e, h, ← f, k, i, j)
-
-    pub compared_done : b ≡ Taken → (s : Bool) → s ≡ same_key kind u v → ◌≡◌ {A = Compared} (record { number = 0; place = 0; ring = 0; same = s }) (compared_of kind u v)
-    compared_done k s i = rw (← e, h, ← f, k, i)
 
 -- ---- each number of the comparison, with its place and the ring that it names
 

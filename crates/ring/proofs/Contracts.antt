@@ -1,4 +1,5 @@
--- Whatever meets a public call's contract is the call that `specs/Calls` names: the theorems of the demands speak of the contracts.
+-- Whatever meets a public call's contract is the call that `specs/Calls` names: the theorems of the demands speak of the contracts, and of an
+-- answer as it is told in 01's numbers (`specs/Told`).
 -- `Post` is the contract itself, as the check reads it from the source: of the arguments, the answer, and what is lent at exit.
 -- Assumes nothing.
 use contract.Lifetimes
@@ -6,6 +7,7 @@ use borrow.Fn.World
 use borrow.Fn.Kinds as Fn
 use denote.Triple.Clauses
 use Rattle.ring.specs.Calls.{CheckCall, FactorsCall, SuffixesCall, StartsCall, DuelCall, RepeatCall, MarkCall, WriteLettersCall, WriteKeyCall, KeyCall, CheckKeyCall, WriteDepositCall, CompareCall}
+use Rattle.ring.specs.Told.{told_check, told_factors, told_duels, told_repeat, told_marks, told_compare}
 use Rattle.ring.specs.contracts.judge.check
 use Rattle.ring.proofs.judge.check.Kinds as check-kinds
 use Rattle.ring.proofs.judge.check.Reads as check-reads
@@ -47,35 +49,35 @@ use Rattle.ring.proofs.comparison.compare.Kinds as compare-kinds
 use Rattle.ring.proofs.comparison.compare.Reads as compare-reads
 
 pub check_call : (κs : Lifetimes.Lfts 1) (a : World.ArgsD check.signature κs) (r : World.ResD check.signature κs) (e : Clauses.AtExit (Fn.ended_of 1 check-kinds.ps check-kinds.r) κs)
-    → check-reads.Post κs a r e → CheckCall a.0.now a.1.0 r
+    → check-reads.Post κs a r e → CheckCall a.0.now a.1.0 (told_check r)
 check_call κs a r e p = record { answer = p }
 
 pub factors_call : (κs : Lifetimes.Lfts 2) (a : World.ArgsD factors.signature κs) (r : World.ResD factors.signature κs) (e : Clauses.AtExit (Fn.ended_of 2 factors-kinds.ps factors-kinds.r) κs)
-    → factors-reads.Post κs a r e → FactorsCall a.0.now a.1.0 a.1.1.0.now r e.1.1.0.now
+    → factors-reads.Post κs a r e → FactorsCall a.0.now a.1.0 a.1.1.0.now (told_factors r) e.1.1.0.now
 factors_call κs a r e p = record { answer = p.0; leaves = p.1 }
 
 pub suffixes_call : (κs : Lifetimes.Lfts 2) (a : World.ArgsD suffixes.signature κs) (r : World.ResD suffixes.signature κs) (e : Clauses.AtExit (Fn.ended_of 2 suffixes-kinds.ps suffixes-kinds.r) κs)
-    → suffixes-reads.Post κs a r e → SuffixesCall a.0.now a.1.0 a.1.1.0.now r e.1.1.0.now
+    → suffixes-reads.Post κs a r e → SuffixesCall a.0.now a.1.0 a.1.1.0.now (told_check r) e.1.1.0.now
 suffixes_call κs a r e p = record { answer = p.0; leaves = p.1 }
 
 pub starts_call : (κs : Lifetimes.Lfts 2) (a : World.ArgsD starts.signature κs) (r : World.ResD starts.signature κs) (e : Clauses.AtExit (Fn.ended_of 2 starts-kinds.ps starts-kinds.r) κs)
-    → starts-reads.Post κs a r e → StartsCall a.0.now a.1.0 a.1.1.0.now r e.1.1.0.now
+    → starts-reads.Post κs a r e → StartsCall a.0.now a.1.0 a.1.1.0.now (told_check r) e.1.1.0.now
 starts_call κs a r e p = record { answer = p.0; leaves = p.1 }
 
 pub duel_call : (κs : Lifetimes.Lfts 1) (a : World.ArgsD duel.signature κs) (r : World.ResD duel.signature κs) (e : Clauses.AtExit (Fn.ended_of 1 duel-kinds.ps duel-kinds.r) κs)
-    → duel-reads.Post κs a r e → DuelCall a.0.now a.1.0 r
+    → duel-reads.Post κs a r e → DuelCall a.0.now a.1.0 (told_duels r)
 duel_call κs a r e p = record { answer = p }
 
 pub repeat_call : (κs : Lifetimes.Lfts 1) (a : World.ArgsD repeat.signature κs) (r : World.ResD repeat.signature κs) (e : Clauses.AtExit (Fn.ended_of 1 repeat-kinds.ps repeat-kinds.r) κs)
-    → repeat-reads.Post κs a r e → RepeatCall a.0.now a.1.0 r
+    → repeat-reads.Post κs a r e → RepeatCall a.0.now a.1.0 (told_repeat r)
 repeat_call κs a r e p = record { answer = p }
 
 pub mark_call : (κs : Lifetimes.Lfts 1) (a : World.ArgsD mark.signature κs) (r : World.ResD mark.signature κs) (e : Clauses.AtExit (Fn.ended_of 1 mark-kinds.ps mark-kinds.r) κs)
-    → mark-reads.Post κs a r e → MarkCall a.0.now a.1.0 r
+    → mark-reads.Post κs a r e → MarkCall a.0.now a.1.0 (told_marks r)
 mark_call κs a r e p = record { answer = p }
 
 pub write_key_call : (κs : Lifetimes.Lfts 3) (a : World.ArgsD write_key.signature κs) (r : World.ResD write_key.signature κs) (e : Clauses.AtExit (Fn.ended_of 3 write-key-kinds.ps write-key-kinds.r) κs)
-    → write-key-reads.Post κs a r e → WriteKeyCall a.0.now a.1.0 a.1.1.0.now a.1.1.1.0.now r e.1.1.0.now e.1.1.1.0.now
+    → write-key-reads.Post κs a r e → WriteKeyCall a.0.now a.1.0 a.1.1.0.now a.1.1.1.0.now (told_marks r) e.1.1.0.now e.1.1.1.0.now
 write_key_call κs a r e p = record { answer = p.0; front = p.1.0; back = p.1.1 }
 
 pub key_call : (κs : Lifetimes.Lfts 2) (a : World.ArgsD key.signature κs) (r : World.ResD key.signature κs) (e : Clauses.AtExit (Fn.ended_of 2 key-kinds.ps key-kinds.r) κs)
@@ -83,17 +85,17 @@ pub key_call : (κs : Lifetimes.Lfts 2) (a : World.ArgsD key.signature κs) (r :
 key_call κs a r e p = record { is = p.0; stands = p.1 }
 
 pub compare_call : (κs : Lifetimes.Lfts 2) (a : World.ArgsD compare.signature κs) (r : World.ResD compare.signature κs) (e : Clauses.AtExit (Fn.ended_of 2 compare-kinds.ps compare-kinds.r) κs)
-    → compare-reads.Post κs a r e → CompareCall a.0.now a.1.0.now a.1.1.0 r
+    → compare-reads.Post κs a r e → CompareCall a.0.now a.1.0.now a.1.1.0 (told_compare r)
 compare_call κs a r e p = record { answer = p }
 
 pub write_letters_call : (κs : Lifetimes.Lfts 2) (a : World.ArgsD write_letters.signature κs) (r : World.ResD write_letters.signature κs) (e : Clauses.AtExit (Fn.ended_of 2 write-letters-kinds.ps write-letters-kinds.r) κs)
-    → write-letters-reads.Post κs a r e → WriteLettersCall a.0.now a.1.0 a.1.1.0.now r e.1.1.0.now
+    → write-letters-reads.Post κs a r e → WriteLettersCall a.0.now a.1.0 a.1.1.0.now (told_marks r) e.1.1.0.now
 write_letters_call κs a r e p = record { answer = p.0; leaves = p.1 }
 
 pub check_key_call : (κs : Lifetimes.Lfts 1) (a : World.ArgsD check_key.signature κs) (r : World.ResD check_key.signature κs) (e : Clauses.AtExit (Fn.ended_of 1 check-key-kinds.ps check-key-kinds.r) κs)
-    → check-key-reads.Post κs a r e → CheckKeyCall a.0.now a.1.0 a.1.1.0 a.1.1.1.0 r
+    → check-key-reads.Post κs a r e → CheckKeyCall a.0.now a.1.0 a.1.1.0 a.1.1.1.0 (told_marks r)
 check_key_call κs a r e p = record { answer = p }
 
 pub write_deposit_call : (κs : Lifetimes.Lfts 2) (a : World.ArgsD write_deposit.signature κs) (r : World.ResD write_deposit.signature κs) (e : Clauses.AtExit (Fn.ended_of 2 write-deposit-kinds.ps write-deposit-kinds.r) κs)
-    → write-deposit-reads.Post κs a r e → WriteDepositCall a.0.now a.1.0 a.1.1.0 a.1.1.1.0 a.1.1.1.1.0.now r e.1.1.1.1.0.now
+    → write-deposit-reads.Post κs a r e → WriteDepositCall a.0.now a.1.0 a.1.1.0 a.1.1.1.0 a.1.1.1.1.0.now (told_marks r) e.1.1.1.1.0.now
 write_deposit_call κs a r e p = record { answer = p.0; leaves = p.1 }

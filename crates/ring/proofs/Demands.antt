@@ -25,7 +25,7 @@ use Rattle.words.proofs.Repeats.Word.{lowest_word}
 use Rattle.words.proofs.Keys.Molecule.{repeat_molecule}
 use Rattle.words.proofs.Factors.Runs.{table_few}
 use Rattle.words.proofs.Suffixes.Prefix.{least_suffix_is, length-suffix_table, suffix_table_at, length-start_table, start_table_at}
-use Rattle.ring.specs.declared.judge.Verdict.{Verdict}
+use Rattle.ring.specs.Verdict.{Verdict}
 use Rattle.ring.specs.declared.answer.Checked.{Checked}
 use Rattle.ring.specs.declared.answer.Factored.{Factored}
 use Rattle.ring.specs.declared.answer.Fought.{Fought}

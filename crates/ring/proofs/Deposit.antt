@@ -14,7 +14,7 @@ use Rattle.ring.specs.Judging.{Permitted}
 use Rattle.ring.specs.Answers.{IsKey, deposit, is_key}
 use Rattle.ring.proofs.Permits.{permitted_lowest, permitted_strand}
 use Rattle.ring.proofs.KeyFit.{is_key_is, is_key_true, deposit_one}
-use Rattle.ring.proofs.Marks.{start_below}
+use Rattle.ring.proofs.MarkLaws.{start_below}
 use Rattle.ring.proofs.ComparedLemmas.{length-key}
 
 pub permitted_key : (kind : ℕ) (w : List ℕ) → Permitted kind w → Permitted kind (key kind w)

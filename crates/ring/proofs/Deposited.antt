@@ -7,8 +7,8 @@ use Prim.Native.Nat.{ℕ, ◌<◌}
 use lib.ListN.{length, take}
 use lib.Seq.{take_at}
 use Rattle.words.specs.Keys.Strand.{strand, key_start, key}
-use Rattle.ring.specs.declared.judge.Verdict.{Verdict}
-use Rattle.ring.specs.declared.judge.Verdict.TheVariants.{Taken}
+use Rattle.ring.specs.Verdict.{Verdict}
+use Rattle.ring.specs.Verdict.{Taken}
 use Rattle.ring.specs.Judging.{Permitted, number_of, place_of, taken, field}
 use Rattle.ring.specs.Answers.{fewer, IsKey, deposit, is_key, deposit_verdict, deposit_room}
 use Rattle.ring.specs.Demands.{lent, AsRuled, GivenKey, KeyOf}

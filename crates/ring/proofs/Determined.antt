@@ -3,6 +3,7 @@
 -- Assumes nothing.
 use mathlib.Core.Path.{◌≡◌}
 use Rattle.words.proofs.Order.Search.{promised_one}
+use Rattle.ring.proofs.ToldLaws.{check_one, factors_one, duels_one, repeat_one, marks_one, compared_one}
 use contract.Lifetimes
 use borrow.Fn.World
 use borrow.Fn.Kinds as Fn
@@ -55,7 +56,7 @@ use Rattle.ring.proofs.marking.refusal.Reads as refusal-reads
 
 pub check_determined : (κs : Lifetimes.Lfts 1) (a : World.ArgsD check.signature κs) (r s : World.ResD check.signature κs) (e f : Clauses.AtExit (Fn.ended_of 1 check-kinds.ps check-kinds.r) κs)
     → check-reads.Post κs a r e → check-reads.Post κs a s f → r ≡ s
-check_determined κs a r s e f p q = promised_one p q
+check_determined κs a r s e f p q = check_one r s (promised_one p q)
 
 pub strands_of_determined : (κs : Lifetimes.Lfts 0) (a : World.ArgsD strands_of.signature κs) (r s : World.ResD strands_of.signature κs) (e f : Clauses.AtExit (Fn.ended_of 0 strands-of-kinds.ps strands-of-kinds.r) κs)
     → strands-of-reads.Post κs a r e → strands-of-reads.Post κs a s f → r ≡ s
@@ -63,31 +64,31 @@ strands_of_determined κs a r s e f p q = promised_one p q
 
 pub factors_determined : (κs : Lifetimes.Lfts 2) (a : World.ArgsD factors.signature κs) (r s : World.ResD factors.signature κs) (e f : Clauses.AtExit (Fn.ended_of 2 factors-kinds.ps factors-kinds.r) κs)
     → factors-reads.Post κs a r e → factors-reads.Post κs a s f → (r ≡ s) × (e.1.1.0.now ≡ f.1.1.0.now)
-factors_determined κs a r s e f p q = (promised_one p.0 q.0, promised_one p.1 q.1)
+factors_determined κs a r s e f p q = (factors_one r s (promised_one p.0 q.0), promised_one p.1 q.1)
 
 pub suffixes_determined : (κs : Lifetimes.Lfts 2) (a : World.ArgsD suffixes.signature κs) (r s : World.ResD suffixes.signature κs) (e f : Clauses.AtExit (Fn.ended_of 2 suffixes-kinds.ps suffixes-kinds.r) κs)
     → suffixes-reads.Post κs a r e → suffixes-reads.Post κs a s f → (r ≡ s) × (e.1.1.0.now ≡ f.1.1.0.now)
-suffixes_determined κs a r s e f p q = (promised_one p.0 q.0, promised_one p.1 q.1)
+suffixes_determined κs a r s e f p q = (check_one r s (promised_one p.0 q.0), promised_one p.1 q.1)
 
 pub starts_determined : (κs : Lifetimes.Lfts 2) (a : World.ArgsD starts.signature κs) (r s : World.ResD starts.signature κs) (e f : Clauses.AtExit (Fn.ended_of 2 starts-kinds.ps starts-kinds.r) κs)
     → starts-reads.Post κs a r e → starts-reads.Post κs a s f → (r ≡ s) × (e.1.1.0.now ≡ f.1.1.0.now)
-starts_determined κs a r s e f p q = (promised_one p.0 q.0, promised_one p.1 q.1)
+starts_determined κs a r s e f p q = (check_one r s (promised_one p.0 q.0), promised_one p.1 q.1)
 
 pub duel_determined : (κs : Lifetimes.Lfts 1) (a : World.ArgsD duel.signature κs) (r s : World.ResD duel.signature κs) (e f : Clauses.AtExit (Fn.ended_of 1 duel-kinds.ps duel-kinds.r) κs)
     → duel-reads.Post κs a r e → duel-reads.Post κs a s f → r ≡ s
-duel_determined κs a r s e f p q = promised_one p q
+duel_determined κs a r s e f p q = duels_one r s (promised_one p q)
 
 pub repeat_determined : (κs : Lifetimes.Lfts 1) (a : World.ArgsD repeat.signature κs) (r s : World.ResD repeat.signature κs) (e f : Clauses.AtExit (Fn.ended_of 1 repeat-kinds.ps repeat-kinds.r) κs)
     → repeat-reads.Post κs a r e → repeat-reads.Post κs a s f → r ≡ s
-repeat_determined κs a r s e f p q = promised_one p q
+repeat_determined κs a r s e f p q = repeat_one r s (promised_one p q)
 
 pub mark_determined : (κs : Lifetimes.Lfts 1) (a : World.ArgsD mark.signature κs) (r s : World.ResD mark.signature κs) (e f : Clauses.AtExit (Fn.ended_of 1 mark-kinds.ps mark-kinds.r) κs)
     → mark-reads.Post κs a r e → mark-reads.Post κs a s f → r ≡ s
-mark_determined κs a r s e f p q = promised_one p q
+mark_determined κs a r s e f p q = marks_one r s (promised_one p q)
 
 pub write_key_determined : (κs : Lifetimes.Lfts 3) (a : World.ArgsD write_key.signature κs) (r s : World.ResD write_key.signature κs) (e f : Clauses.AtExit (Fn.ended_of 3 write-key-kinds.ps write-key-kinds.r) κs)
     → write-key-reads.Post κs a r e → write-key-reads.Post κs a s f → (r ≡ s) × (e.1.1.0.now ≡ f.1.1.0.now) × (e.1.1.1.0.now ≡ f.1.1.1.0.now)
-write_key_determined κs a r s e f p q = (promised_one p.0 q.0, promised_one p.1.0 q.1.0, promised_one p.1.1 q.1.1)
+write_key_determined κs a r s e f p q = (marks_one r s (promised_one p.0 q.0), promised_one p.1.0 q.1.0, promised_one p.1.1 q.1.1)
 
 pub key_determined : (κs : Lifetimes.Lfts 2) (a : World.ArgsD key.signature κs) (r s : World.ResD key.signature κs) (e f : Clauses.AtExit (Fn.ended_of 2 key-kinds.ps key-kinds.r) κs)
     → key_reads.Post κs a r e → key_reads.Post κs a s f → (r.now ≡ s.now) × (r.ref_ptr ≡ s.ref_ptr)
@@ -95,7 +96,7 @@ key_determined κs a r s e f p q = (promised_one p.0 q.0, promised_one p.1 q.1)
 
 pub compare_determined : (κs : Lifetimes.Lfts 2) (a : World.ArgsD compare.signature κs) (r s : World.ResD compare.signature κs) (e f : Clauses.AtExit (Fn.ended_of 2 compare-kinds.ps compare-kinds.r) κs)
     → compare-reads.Post κs a r e → compare-reads.Post κs a s f → r ≡ s
-compare_determined κs a r s e f p q = promised_one p q
+compare_determined κs a r s e f p q = compared_one r s (promised_one p q)
 
 pub refusal_determined : (κs : Lifetimes.Lfts 0) (a : World.ArgsD refusal.signature κs) (r s : World.ResD refusal.signature κs) (e f : Clauses.AtExit (Fn.ended_of 0 refusal-kinds.ps refusal-kinds.r) κs)
     → refusal-reads.Post κs a r e → refusal-reads.Post κs a s f → r ≡ s
@@ -103,12 +104,12 @@ refusal_determined κs a r s e f p q = promised_one p q
 
 pub write_letters_determined : (κs : Lifetimes.Lfts 2) (a : World.ArgsD write_letters.signature κs) (r s : World.ResD write_letters.signature κs) (e f : Clauses.AtExit (Fn.ended_of 2 write-letters-kinds.ps write-letters-kinds.r) κs)
     → write-letters-reads.Post κs a r e → write-letters-reads.Post κs a s f → (r ≡ s) × (e.1.1.0.now ≡ f.1.1.0.now)
-write_letters_determined κs a r s e f p q = (promised_one p.0 q.0, promised_one p.1 q.1)
+write_letters_determined κs a r s e f p q = (marks_one r s (promised_one p.0 q.0), promised_one p.1 q.1)
 
 pub check_key_determined : (κs : Lifetimes.Lfts 1) (a : World.ArgsD check_key.signature κs) (r s : World.ResD check_key.signature κs) (e f : Clauses.AtExit (Fn.ended_of 1 check-key-kinds.ps check-key-kinds.r) κs)
     → check-key-reads.Post κs a r e → check-key-reads.Post κs a s f → r ≡ s
-check_key_determined κs a r s e f p q = promised_one p q
+check_key_determined κs a r s e f p q = marks_one r s (promised_one p q)
 
 pub write_deposit_determined : (κs : Lifetimes.Lfts 2) (a : World.ArgsD write_deposit.signature κs) (r s : World.ResD write_deposit.signature κs) (e f : Clauses.AtExit (Fn.ended_of 2 write-deposit-kinds.ps write-deposit-kinds.r) κs)
     → write-deposit-reads.Post κs a r e → write-deposit-reads.Post κs a s f → (r ≡ s) × (e.1.1.1.1.0.now ≡ f.1.1.1.1.0.now)
-write_deposit_determined κs a r s e f p q = (promised_one p.0 q.0, promised_one p.1 q.1)
+write_deposit_determined κs a r s e f p q = (marks_one r s (promised_one p.0 q.0), promised_one p.1 q.1)

@@ -15,8 +15,8 @@ use Rattle.words.proofs.Order.Search.{by_test}
 use Rattle.words.proofs.Keys.Kind.{base_iupac}
 use Rattle.words.proofs.Keys.Molecule.{strand_alike, start_alike, key_alike}
 use Rattle.ring.specs.Rule.{Rule, rule, judged}
-use Rattle.ring.specs.declared.judge.Verdict.{Verdict}
-use Rattle.ring.specs.declared.judge.Verdict.TheVariants.{Taken, Short, NotKey}
+use Rattle.ring.specs.Verdict.{Verdict}
+use Rattle.ring.specs.Verdict.{Taken, Short, NotKey}
 use Rattle.ring.specs.Judging.{Permitted, first_bad, ring_rules, verdict, taken, after}
 use Rattle.ring.specs.Answers.{fewer, marked_as, lettered_room, rooms_short, key_verdict, keyed_of, first_room, second_room, key_part, equal, same_key, deposit, is_key, as_key}
 use Rattle.ring.specs.Demands.{OverBases}

@@ -7,7 +7,7 @@ use native.Mathlib.Omega.{arith}
 use borrow.Author.Tests.{eq-eqb}
 use lib.ListN.{length, take, drop, get_or, length-take, get_or-append}
 use lib.Seq.{take_at}
-use Rattle.ring.specs.declared.judge.Verdict.{Verdict}
+use Rattle.ring.specs.Verdict.{Verdict}
 use Rattle.words.specs.Factors.Factor.{factors, factor_table}
 use Rattle.words.proofs.Factors.Factor.{factors_are, factors_one}
 use Rattle.words.proofs.Factors.Runs.{length-factor_table, table_ascends}

@@ -9,8 +9,8 @@ use borrow.Author.Tests.{eqb-true, le-ltb}
 use lib.ListN.{length, get_or}
 use Rattle.words.specs.Keys.Kind.{known, is_letter}
 use Rattle.words.proofs.Order.Search.{by_test, either, lt_or_ge}
-use Rattle.ring.specs.declared.judge.Verdict.{Verdict}
-use Rattle.ring.specs.declared.judge.Verdict.TheVariants.{Taken, Kind, Empty, Long, Letter, Short, NotKey}
+use Rattle.ring.specs.Verdict.{Verdict}
+use Rattle.ring.specs.Verdict.{Taken, Kind, Empty, Long, Letter, Short, NotKey}
 use Rattle.ring.specs.Judging.{most, first_bad, Permitted, number_of, place_of, taken, verdict, Given, unknown, none, many, letter, lacking, done}
 use Rattle.ring.specs.Answers.{fewer}
 use Rattle.ring.proofs.Judging.{says_kind, says_empty, says_long, says_letter, says_short, says_taken}

@@ -14,7 +14,7 @@ use Rattle.words.specs.Keys.Strand.{opposite, strand, key_start, key}
 use Rattle.words.proofs.Order.Search.{by_test}
 use Rattle.words.proofs.Rings.Turn.{length-lowest}
 use Rattle.words.proofs.Keys.Strand.{length-opposite}
-use Rattle.ring.specs.declared.judge.Verdict.{Verdict}
+use Rattle.ring.specs.Verdict.{Verdict}
 use Rattle.ring.specs.declared.answer.Marked.{Marked}
 use Rattle.ring.specs.Judging.{Permitted, done, number_of, taken, field, over, after}
 use Rattle.ring.specs.Answers.{rooms_short, key_verdict, keyed_of, first_room, second_room, key_part, in_second}

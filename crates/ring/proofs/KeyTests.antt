@@ -20,6 +20,11 @@ use Rattle.ring.specs.Answers.{is_key}
 use Rattle.ring.proofs.KeyFit.{Fit, fit_true, not_fit}
 
 module _ (kind : ℕ) (k : List ℕ) (at s : ℕ) where
+  -- a number that is no strand's
+  pub test_none : 1 < s → is_key kind k at s ≡ false
+  test_none h =
+      sym (not_fit kind k at s (λ f. by_test (stranded kind) (λ t. omega (arith, f.known t)) (λ t. omega (arith, f.plain t))))
+
   module _ (p : Permitted kind k) (size end : ℕ) (r : FirstRun k size end) where
     -- more than one run: not their own lowest reading
     pub test_more : (end ≡ length k → ⊥) → false ≡ is_key kind k at s
@@ -44,9 +49,6 @@ module _ (kind : ℕ) (k : List ℕ) (at s : ℕ) where
             (λ q. q ∙ not_fit kind k at s (λ f. eqb-false s 0 q (f.plain t)))
 
         module _ (t : stranded kind ≡ true) where
-          pub test_strand : 1 < s → false ≡ is_key kind k at s
-          test_strand h = not_fit kind k at s (λ f. omega (arith, f.known t))
-
           pub test_left : s ≤ 1 → (a : Bool) → a ≡ left_to k s → a ≡ is_key kind k at s
           test_left h a q =
               by_test (left_to k s)

@@ -14,18 +14,18 @@ use Rattle.words.specs.Keys.Strand.{opposite, strand, key_start}
 use Rattle.words.proofs.Order.Search.{by_test, neither}
 use Rattle.words.proofs.Keys.Strand.{length-opposite}
 use Rattle.words.proofs.Rings.Turn.{length-lowest}
-use Rattle.ring.specs.declared.judge.Verdict.{Verdict}
-use Rattle.ring.specs.declared.judge.Verdict.TheVariants.{Taken}
+use Rattle.ring.specs.Verdict.{Verdict}
+use Rattle.ring.specs.Verdict.{Taken}
 use Rattle.ring.specs.declared.answer.Marked.{Marked}
 use Rattle.ring.specs.declared.marking.Strands.{Strands}
 use Rattle.ring.specs.Judging.{Permitted, Given, verdict, number_of, place_of, taken, field, over, after}
-use Rattle.ring.specs.Strands.{both_strands, marked_on, refused_by}
+use Rattle.ring.specs.Strands.{both_strands, marked_on}
 use Rattle.ring.specs.Answers.{done_with, rooms_short, key_verdict, first_room, second_room}
 use Rattle.ring.specs.Calls.{WriteKeyCall}
 use Rattle.ring.specs.Demands.{lent, AsRuled, LacksRoom}
 use Rattle.ring.proofs.Exactly.{taken_is, taken_permitted}
 use Rattle.ring.proofs.Numbers.{ruled, rooms_few, left_alone, written_beyond}
-use Rattle.ring.proofs.Marks.{by_refused, marked_done, marks_stranded}
+use Rattle.ring.proofs.MarkLaws.{marked_done, marks_stranded}
 
 -- the verdict on a ring with the rooms of the key
 pub keyed_is : (kind : ℕ) (w : List ℕ) (a b : ℕ) (short : Bool) (v : Verdict) → short ≡ rooms_short kind (length w) a b → v ≡ verdict kind w short → v ≡ key_verdict kind w a b
@@ -45,15 +45,6 @@ module _ (kind : ℕ) (w : List ℕ) (a b : ℕ) (e : key_verdict kind w a b ≡
       ltb-false b (length w) (simp k at t)
 
 module _ (kind : ℕ) (w first second : List ℕ) where
-  pub keyed_refused : (v : Verdict) (m : Marked) → v ≡ key_verdict kind w (length first) (length second) → taken v ≡ false → m ≡ refused_by v → WriteKeyCall w kind first second m first second
-  keyed_refused v m e f q =
-      let g : taken (key_verdict kind w (length first) (length second)) ≡ false = ap taken (sym e) ∙ f in
-      record {
-        answer = q ∙ by_refused _ _ _ v _ e f;
-        front = rw g;
-        back = by_test (stranded kind) (λ k. rw (g, k)) (λ k. rw k);
-      }
-
   module _ (e : key_verdict kind w (length first) (length second) ≡ Taken) where
     g : taken (key_verdict kind w (length first) (length second)) ≡ true
     g = ap taken e

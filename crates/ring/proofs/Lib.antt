@@ -1,5 +1,6 @@
 -- The laws of the ring rules; what each function's proof cites, and the theorems above the contracts
 pub mod Judging
+pub mod KindLaws
 pub mod Letters
 pub mod Laid
 pub mod Replies
@@ -11,7 +12,8 @@ pub mod Contracts
 pub mod Permits
 pub mod Equal
 pub mod OnStrand
-pub mod Marks
+pub mod ToldLaws
+pub mod MarkLaws
 pub mod Keyed
 pub mod KeyPart
 pub mod KeyFit

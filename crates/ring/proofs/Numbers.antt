@@ -12,7 +12,7 @@ use lib.ListN.{length, drop, length-append, length-drop}
 use lib.Seq.{drop_at}
 use Rattle.words.specs.Keys.Kind.{stranded}
 use Rattle.words.proofs.Order.Search.{by_test, either}
-use Rattle.ring.specs.declared.judge.Verdict.{Verdict}
+use Rattle.ring.specs.Verdict.{Verdict}
 use Rattle.ring.specs.Judging.{Permitted, first_bad, number_of, place_of, taken, verdict, after, Given, unknown, none, many, letter, lacking, done}
 use Rattle.ring.specs.Answers.{fewer, rooms_short}
 use Rattle.ring.specs.Demands.{Lent, lent, Zeros, AsLent, Beyond, AsRuled, LacksRoom}

@@ -1,27 +1,19 @@
 -- A ring on a strand, read where it stands: its letters one by one and round the ring, its parts, and two readings each on its strand.
 -- Assumes nothing.
 use mathlib.Core.Path.{◌≡◌, sym, ap, ◌∙◌}
-use mathlib.Core.Bool.{false}
 use mathlib.Core.List.{List, ◌++◌}
-use Prim.Native.Nat.{ℕ, ◌≤◌, ◌<◌, ◌+◌, ◌-◌}
+use Prim.Native.Nat.{ℕ, ◌≤◌, ◌<◌, ◌-◌}
 use native.Mathlib.Omega.{arith}
 use borrow.Author.Tests.{eq-eqb, ne_eqb}
-use lib.Dec.{ltb, eqb}
-use lib.ListN.{length, take, drop, get_or, length-drop, length-take, take-append-drop}
+use lib.Dec.{eqb}
+use lib.ListN.{length, take, drop, get_or, length-drop, take-append-drop}
 use lib.Seq.{take_at, drop_at, take_all}
 use Rattle.words.specs.Keys.Facing.{facing}
-use Rattle.words.specs.Order.Order.{before}
-use Rattle.words.specs.Rings.Ring.{reading, around}
-use Rattle.words.specs.Duels.Paired.{Paired, Met}
 use Rattle.words.specs.Keys.Strand.{opposite, on_strand}
 use Rattle.words.proofs.Order.Search.{by_test}
-use Rattle.words.proofs.Duels.Paired.{before_at, before_same}
 use Rattle.words.proofs.Keys.Facing.{facing_twice}
 use Rattle.words.proofs.Keys.Strand.{length-opposite, length-strand, opposite_at, opposite-append}
-use Rattle.words.proofs.Rings.Turn.{around_in, around_out}
 use Rattle.ring.specs.OnStrand.{place_on, shown_on}
-use Rattle.ring.specs.Answers.{equal}
-use Rattle.ring.proofs.Equal.{equal_met}
 
 -- letters that are read alike on a strand are alike
 shown_one : (s a b : ℕ) → shown_on s a ≡ shown_on s b → a ≡ b
@@ -40,9 +32,6 @@ module _ (s : ℕ) (w : List ℕ) where
   pub at_opposite : s ≡ 1 → (i : ℕ) → i < length w → get_or (on_strand s w) i 0 ≡ facing (get_or w (length w - 1 - i) 0)
   at_opposite q i h = rw (on_opposite q) (opposite_at w i h)
 
-  pub at_own : (s ≡ 1 → ⊥) → (i : ℕ) → get_or (on_strand s w) i 0 ≡ get_or w i 0
-  at_own q i = rw (on_own q)
-
   at_shown : (i p : ℕ) → i < length w → p ≡ place_on s (length w) i → get_or (on_strand s w) i 0 ≡ shown_on s (get_or w p 0)
   at_shown i p h e = by_test (eqb s 1) (λ t. rw (e, t) (opposite_at w i h)) (λ t. rw (e, t))
 
@@ -59,14 +48,6 @@ module _ (s : ℕ) (w : List ℕ) where
       more n m =
           let d : a ≡ b → ⊥ = λ z. n (shown_one s _ _ (sym x ∙ z ∙ y)) in
           rw (at_shown j p h e, at_shown k q l f, ← x, ← y) (omega arith)
-
-  pub around_near : (i : ℕ) → i < length w → around (on_strand s w) i ≡ get_or (on_strand s w) i 0
-  around_near i h = around_in (on_strand s w) i (omega (arith, length-strand s w))
-
-  pub around_far : (i : ℕ) → length w ≤ i → i < length w + length w → around (on_strand s w) i ≡ get_or (on_strand s w) (i - length w) 0
-  around_far i h l =
-      around_out (on_strand s w) i (omega (arith, length-strand s w)) (omega (arith, length-strand s w))
-      ∙ ap (λ n. get_or (on_strand s w) (i - n) 0) (length-strand s w)
 
   -- ---- the letters from m on, and those before m
 
@@ -94,36 +75,20 @@ module _ (s : ℕ) (w : List ℕ) where
     pub front_own : (s ≡ 1 → ⊥) → on_strand s (take m w) ≡ take m (on_strand s w)
     front_own q = rw (ne_eqb s 1 q)
 
--- a part that holds letters of a strand has as many
-module _ (s : ℕ) (w r : List ℕ) (m : ℕ) where
-  pub length_back : on_strand s r ≡ drop m (on_strand s w) → length r ≡ length w - m
-  length_back e = omega (arith, length-strand s r, length-strand s w, ap length e, length-drop m (on_strand s w))
+-- a ring and what is seen of it on a strand have as many letters
+pub seen_size : (s : ℕ) (w v : List ℕ) → on_strand s w ≡ v → length w ≡ length v
+seen_size s w v e = sym (length-strand s w) ∙ ap length e
 
-  pub length_front : m ≤ length w → on_strand s r ≡ take m (on_strand s w) → length r ≡ m
-  length_front h e = omega (arith, length-strand s r, length-strand s w, ap length e, length-take m (on_strand s w))
+-- ---- two letters of what is seen on a strand, by where they stand in the ring
 
--- ---- two readings, each on its strand
+module _ (s : ℕ) (w v : List ℕ) (e : on_strand s w ≡ v) (j k p q : ℕ) (h : j < length v) (l : k < length v)
+    (x : p ≡ place_on s (length w) j) (y : q ≡ place_on s (length w) k) where
+  pub seen_alike : get_or w p 0 ≡ get_or w q 0 → get_or v j 0 ≡ get_or v k 0
+  seen_alike g =
+      let n = seen_size s w v e in
+      rw e at (sym (alike s w j k p q (omega arith) (omega arith) x y g))
 
-module _ (x y : ℕ) (u v : List ℕ) (p q k : ℕ) where
-  pub met_all : k ≤ length u → length u ≤ k → Paired (on_strand x u) (on_strand y v) p q k → Met (on_strand x u) (on_strand y v) p q k
-  met_all h l m = record { within = omega (arith, length-strand x u); agree = m; differs = λ n. absurd (omega (arith, length-strand x u)) }
-
-  pub met_differs : k ≤ length u → Paired (on_strand x u) (on_strand y v) p q k → (around (on_strand x u) (p + k) ≡ around (on_strand y v) (q + k) → ⊥)
-      → Met (on_strand x u) (on_strand y v) p q k
-  met_differs h m d = record { within = omega (arith, length-strand x u); agree = m; differs = λ n. d }
-
-  module _ (n : length u ≡ length v) (i : p ≤ length u) (j : q ≤ length v) (a : Met (on_strand x u) (on_strand y v) p q k) where
-    same_size : length (on_strand x u) ≡ length (on_strand y v)
-    same_size = length-strand x u ∙ n ∙ sym (length-strand y v)
-
-    pub lower_at : k < length u → (c d : ℕ) → c ≡ around (on_strand x u) (p + k) → d ≡ around (on_strand y v) (q + k)
-        → ltb c d ≡ before (reading (on_strand x u) p) (reading (on_strand y v) q)
-    lower_at h = before_at (on_strand x u) (on_strand y v) p q k same_size (omega (arith, length-strand x u)) (omega (arith, length-strand y v)) a (omega (arith, length-strand x u))
-
-    pub lower_same : length u ≤ k → false ≡ before (reading (on_strand x u) p) (reading (on_strand y v) q)
-    lower_same h = before_same (on_strand x u) (on_strand y v) p q k same_size (omega (arith, length-strand x u)) (omega (arith, length-strand y v)) a (omega (arith, length-strand x u))
-
-    pub same_met : eqb k (length u) ≡ equal (reading (on_strand x u) p) (reading (on_strand y v) q)
-    same_met =
-        ap (eqb k) (sym (length-strand x u))
-        ∙ equal_met (on_strand x u) (on_strand y v) p q k same_size (omega (arith, length-strand x u)) (omega (arith, length-strand y v)) a
+  pub seen_shown : (shown_on s (get_or w p 0) ≡ get_or v j 0) × (shown_on s (get_or w q 0) ≡ get_or v k 0)
+  seen_shown =
+      let n = seen_size s w v e in
+      (rw e at (sym (at_shown s w j p (omega arith) x)), rw e at (sym (at_shown s w k q (omega arith) y)))

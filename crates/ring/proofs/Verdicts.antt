@@ -7,8 +7,8 @@ use Prim.Native.Nat.{ℕ}
 use native.Mathlib.Omega.{arith}
 use borrow.Author.Tests.{ne_eqb, le-ltb}
 use lib.ListN.{length}
-use Rattle.ring.specs.declared.judge.Verdict.{Verdict}
-use Rattle.ring.specs.declared.judge.Verdict.TheVariants.{Taken, Short}
+use Rattle.ring.specs.Verdict.{Verdict}
+use Rattle.ring.specs.Verdict.{Taken, Short}
 use Rattle.ring.specs.Rule.{Rule, rule, judged}
 use Rattle.ring.specs.Judging.{most, first_bad, Permitted, ring_rules, verdict, taken, number_of}
 use Rattle.ring.proofs.Exactly.{good_all, number_taken, taken_permitted}
@@ -41,8 +41,3 @@ module _ (kind : ℕ) (w : List ℕ) where
       λ e. n (ap number_of (clear_more (ring_rules kind w) (rule false Short ∷ []) Taken (done_clear number_of 0 Taken (ring_rules kind w) (omega arith) e))) in
       refused_more number_of (ring_rules kind w) more Taken no
       ∙ sym (refused_more number_of (ring_rules kind w) (rule false Short ∷ []) Taken no)
-
-  -- so it is whatever the room
-  pub refused_any : (short : Bool) → (number_of (verdict kind w false) ≡ 0 → ⊥) → verdict kind w short ≡ verdict kind w false
-  unfolding verdict
-  refused_any short n = refused_behind n (rule short Short ∷ [])

@@ -8,8 +8,8 @@ use Rattle.words.specs.Factors.Factor.{factor_table, lowest_entry}
 use Rattle.words.specs.Suffixes.Prefix.{suffix_table, start_table}
 use Rattle.words.specs.Duels.Duel.{duels, start_of, pairs}
 use Rattle.words.specs.Repeats.Repeat.{repeat}
-use Rattle.ring.specs.declared.judge.Verdict.{Verdict}
-use Rattle.ring.specs.declared.judge.Verdict.TheVariants.{Taken, Short, NotKey}
+use Rattle.ring.specs.Verdict.{Verdict}
+use Rattle.ring.specs.Verdict.{Taken, Short, NotKey}
 use Rattle.ring.specs.declared.answer.Checked.{Checked}
 use Rattle.ring.specs.declared.answer.Factored.{Factored}
 use Rattle.ring.specs.declared.answer.Fought.{Fought}

@@ -1,7 +1,10 @@
 -- What the public contracts cite
+pub mod Verdict
 pub mod Rule
 pub mod Judging
 pub mod Answers
+pub mod Numbered
+pub mod Told
 -- What the theorems of the demands speak of
 pub mod Calls
 pub mod Demands

@@ -1,14 +1,15 @@
-// What the public calls answer: 01's number and place first, and for a refused call every other field 0.
+// The answers in 01's numbers: the number and place first, and for a refused call every other field 0. A host is told these (`probe`).
+use std::fmt;
 
 // The number and the place alone: a ring judged, a table or a room filled.
-#[derive(Clone, Copy)]
+#[derive(Clone, Copy, Debug, PartialEq, Eq)]
 pub struct Checked {
     pub number: u8,
     pub place: usize,
 }
 
 // The factor route: how many factors, and the start.
-#[derive(Clone, Copy)]
+#[derive(Clone, Copy, Debug, PartialEq, Eq)]
 pub struct Factored {
     pub number: u8,
     pub place: usize,
@@ -17,7 +18,7 @@ pub struct Factored {
 }
 
 // The duel route: the start, and the pairs read.
-#[derive(Clone, Copy)]
+#[derive(Clone, Copy, Debug, PartialEq, Eq)]
 pub struct Fought {
     pub number: u8,
     pub place: usize,
@@ -26,7 +27,7 @@ pub struct Fought {
 }
 
 // The repeat of a ring.
-#[derive(Clone, Copy)]
+#[derive(Clone, Copy, Debug, PartialEq, Eq)]
 pub struct Repeated {
     pub number: u8,
     pub place: usize,
@@ -34,7 +35,7 @@ pub struct Repeated {
 }
 
 // The key's marks: how many letters it has, its start and its strand.
-#[derive(Clone, Copy)]
+#[derive(Clone, Copy, Debug, PartialEq, Eq)]
 pub struct Marked {
     pub number: u8,
     pub place: usize,
@@ -44,10 +45,61 @@ pub struct Marked {
 }
 
 // The comparison: which ring was refused, and whether the two are one.
-#[derive(Clone, Copy)]
+#[derive(Clone, Copy, Debug, PartialEq, Eq)]
 pub struct Compared {
     pub number: u8,
     pub place: usize,
     pub ring: u8,
     pub same: bool,
+}
+
+// Each is printed by its fields in their order.
+
+impl fmt::Display for Checked {
+    fn fmt<W: fmt::Write>(&self, f: &mut fmt::Formatter<W>) -> fmt::Result {
+        write!(f, "{} {}", self.number, self.place)
+    }
+}
+
+impl fmt::Display for Factored {
+    fn fmt<W: fmt::Write>(&self, f: &mut fmt::Formatter<W>) -> fmt::Result {
+        write!(
+            f,
+            "{} {} {} {}",
+            self.number, self.place, self.count, self.start
+        )
+    }
+}
+
+impl fmt::Display for Fought {
+    fn fmt<W: fmt::Write>(&self, f: &mut fmt::Formatter<W>) -> fmt::Result {
+        write!(
+            f,
+            "{} {} {} {}",
+            self.number, self.place, self.start, self.pairs
+        )
+    }
+}
+
+impl fmt::Display for Repeated {
+    fn fmt<W: fmt::Write>(&self, f: &mut fmt::Formatter<W>) -> fmt::Result {
+        write!(f, "{} {} {}", self.number, self.place, self.repeat)
+    }
+}
+
+impl fmt::Display for Marked {
+    fn fmt<W: fmt::Write>(&self, f: &mut fmt::Formatter<W>) -> fmt::Result {
+        write!(
+            f,
+            "{} {} {} {} {}",
+            self.number, self.place, self.n, self.start, self.strand
+        )
+    }
+}
+
+impl fmt::Display for Compared {
+    fn fmt<W: fmt::Write>(&self, f: &mut fmt::Formatter<W>) -> fmt::Result {
+        let same = if self.same { "yes" } else { "no" };
+        write!(f, "{} {} {} {same}", self.number, self.place, self.ring)
+    }
 }

@@ -1,72 +1,44 @@
 // The comparison of two rings of one kind.
 ghost use Rattle.std.specs.Prelude.{◌≡◌, ◌<◌, length};
-ghost use Rattle.words.specs.Rings.Ring.{reading, lowest};
-ghost use Rattle.words.specs.Keys.Strand.{opposite};
-ghost use Rattle.ring.specs.Answers.{equal, same_key, compared_of};
+ghost use Rattle.ring.specs.Numbered.{kind_number};
+ghost use Rattle.ring.specs.Told.{told_compare};
+ghost use Rattle.ring.specs.Answers.{same_key, compared_of};
 
-use super::answer::Compared;
-use super::facing::facing_table;
-use super::judge::{Verdict, judge, number_of, place_of};
-use super::kind::has_opposite;
+use super::judge::judge;
+use super::kind::Kind;
 use super::reading::same_reading;
+use super::refusals::NotCompared;
+use super::side::Side;
 use super::start::start_of;
 
-// Whether the lowest reading of the first ring's opposite strand is the reading at `at` of the second.
-fn same_opposite(first: &[u8], second: &[u8], at: usize) -> bool
-    requires { (0 < length first.now) × (length first.now ≡ length second.now) × (at < length second.now) }
-    ensures { result ≡ equal (lowest (opposite first.now)) (reading second.now at) }
-{
-    let facing = facing_table();
-    let c = start_of(&facing, first, 1);
-    same_reading(&facing, first, 1, c, second, 0, at)
-}
-
-// Whether two permitted rings have one key: the lowest readings agree, or those of the first's opposite strand and the second.
-fn same_key(first: &[u8], second: &[u8], kind: u8) -> bool
+// Whether two permitted rings have one key: the lowest readings agree, or those of the first's opposite strand and the second. A function of
+// its own when it is built too: with the judging beside it, its loop over two readings takes five instructions a letter more.
+#[inline(never)]
+fn same_key(first: &[u8], second: &[u8], kind: Kind) -> bool
     requires { (0 < length first.now) × (0 < length second.now) }
-    ensures { result ≡ same_key kind first.now second.now }
+    ensures { result ≡ same_key (kind_number kind) first.now second.now }
 {
     if first.len() != second.len() {
         return false;
     }
-    let facing = facing_table();
-    let a = start_of(&facing, first, 0);
-    let b = start_of(&facing, second, 0);
-    if same_reading(&facing, first, 0, a, second, 0, b) {
+    let one = Side::given(first);
+    let two = Side::given(second);
+    let b = start_of(&two);
+    if same_reading(&one, start_of(&one), &two, b) {
         return true;
     }
-    if has_opposite(kind) {
-        return same_opposite(first, second, b);
+    if kind.has_opposite() {
+        let other = Side::opposite(first);
+        return same_reading(&other, start_of(&other), &two, b);
     }
     false
 }
 
-// The first ring is judged in full before the second; a refused comparison holds no.
-pub fn compare(first: &[u8], second: &[u8], kind: u8) -> Compared
-    ensures { result ≡ compared_of kind first.now second.now }
+// The first ring is judged in full before the second.
+pub fn compare(first: &[u8], second: &[u8], kind: u8) -> Result<bool, NotCompared>
+    ensures { told_compare result ≡ compared_of kind first.now second.now }
 {
-    let v = judge(first, kind, false);
-    let Verdict::Taken = v else {
-        return Compared {
-            number: number_of(v),
-            place: place_of(v),
-            ring: 1,
-            same: false,
-        };
-    };
-    let u = judge(second, kind, false);
-    let Verdict::Taken = u else {
-        return Compared {
-            number: number_of(u),
-            place: place_of(u),
-            ring: 2,
-            same: false,
-        };
-    };
-    Compared {
-        number: 0,
-        place: 0,
-        ring: 0,
-        same: same_key(first, second, kind),
-    }
+    let known = judge(first, kind, false).map_err(NotCompared::First)?;
+    judge(second, kind, false).map_err(NotCompared::Second)?;
+    Ok(same_key(first, second, known))
 }

@@ -1,13 +1,14 @@
 // The duel route: the sequence of duels, with the pairs of letters that they read.
-ghost use Rattle.std.specs.Prelude.{◌≡◌, ◌≤◌, ◌<◌, length};
-ghost use Rattle.words.specs.Duels.Duel.{duels, start_of, pairs, moved_p, moved_q};
+ghost use Rattle.std.specs.Prelude.{◌≡◌, ◌+◌, ◌≤◌, ◌<◌, length};
+ghost use Rattle.words.specs.Duels.Duel.{forward, duels, start_of, pairs, moved_p, moved_q};
 ghost use Rattle.ring.specs.Answers.{fought_of};
 ghost use Rattle.ring.specs.Judging.{most};
+ghost use Rattle.ring.specs.Told.{told_duels};
 
-use super::answer::Fought;
-use super::facing::facing_table;
-use super::judge::{Verdict, judge, number_of, place_of};
-use super::reading::letter;
+use super::judge::judge;
+use super::outcome::Duels;
+use super::refusals::Refusal;
+use super::side::Side;
 
 // Where the two positions of a duel stand.
 #[derive(Clone, Copy)]
@@ -16,43 +17,46 @@ struct Pair {
     q: usize,
 }
 
-// Step 4: of letters `a` at p + k and `b` at q + k the greater one's position moves forward by k + 1; if the two are then
-// equal, q grows by one; the smaller is called p.
-fn moved(p: usize, q: usize, k: usize, a: u8, b: u8) -> Pair
-    requires { (p ≤ most) × (q ≤ most) × (k ≤ most) }
-    ensures { (result.p ≡ moved_p p q k a b) × (result.q ≡ moved_q p q k a b) }
+// Of letters `a` at `at` + k and `b` at the other position + k: where `at` stands behind the duel, which moves the one with the greater letter.
+fn forward(at: usize, k: usize, a: u8, b: u8) -> usize
+    requires { (at ≤ most) × (k ≤ most) }
+    ensures value { result ≡ forward a b at k }
+    ensures near { result ≤ at + (k + 1) }
 {
-    let x = if b < a { p + (k + 1) } else { p };
-    let y = if a < b { q + (k + 1) } else { q };
-    if x == y {
-        Pair { p: x, q: y + 1 }
-    } else {
-        if y < x {
-            Pair { p: y, q: x }
+    if b < a { at + (k + 1) } else { at }
+}
+
+impl Pair {
+    // Step 4: of letters `a` at p + k and `b` at q + k the greater one's position moves forward by k + 1; if the two are then
+    // equal, q grows by one; the smaller is called p.
+    fn moved(self, k: usize, a: u8, b: u8) -> Pair
+        requires { (self.p ≤ most) × (self.q ≤ most) × (k ≤ most) }
+        ensures { (result.p ≡ moved_p self.p self.q k a b) × (result.q ≡ moved_q self.p self.q k a b) }
+    {
+        let x = forward(self.p, k, a, b);
+        let y = forward(self.q, k, b, a);
+        if x == y {
+            Pair { p: x, q: y + 1 }
         } else {
-            Pair { p: x, q: y }
+            Pair {
+                p: x.min(y),
+                q: x.max(y),
+            }
         }
     }
 }
 
-// Where the duels end, and the pairs read.
-#[derive(Clone, Copy)]
-struct Ended {
-    start: usize,
-    pairs: usize,
-}
-
-// Steps 1 to 4: a duel ends at its first differing pair, or after n equal pairs.
-fn fight_all(ring: &[u8]) -> Ended
+// Steps 1 to 4: a duel ends at its first differing pair, or after n equal pairs. 01 names the form of the loops, and the end of the march is n.
+fn fight_all(ring: &[u8]) -> Duels
     requires { (0 < length ring.now) × (length ring.now ≤ most) }
     ensures { (result.start ≡ start_of (duels ring.now)) × (result.pairs ≡ pairs ring.now) }
 {
-    let facing = facing_table();
+    let side = Side::given(ring);
     let n = ring.len();
-    let mut p: usize = 0;
-    let mut q: usize = 1;
+    let mut at = Pair { p: 0, q: 1 };
     let mut read: usize = 0;
     let pairs = 'duels: loop {
+        let Pair { p, q } = at;
         if n <= q {
             break 'duels read;
         }
@@ -61,7 +65,7 @@ fn fight_all(ring: &[u8]) -> Ended
             if k == n {
                 break 'scan n;
             }
-            if letter(&facing, ring, 0, p + k) != letter(&facing, ring, 0, q + k) {
+            if side.around(p, k) != side.around(q, k) {
                 break 'scan k;
             }
             k += 1;
@@ -70,33 +74,15 @@ fn fight_all(ring: &[u8]) -> Ended
             break 'duels read + n;
         }
         read += met + 1;
-        let a = letter(&facing, ring, 0, p + met);
-        let b = letter(&facing, ring, 0, q + met);
-        let next = moved(p, q, met, a, b);
-        p = next.p;
-        q = next.q;
+        at = at.moved(met, side.around(p, met), side.around(q, met));
     };
-    Ended { start: p, pairs }
+    Duels { start: at.p, pairs }
 }
 
 // The start by duels, lent no table, and the pairs read.
-pub fn duel(ring: &[u8], kind: u8) -> Fought
-    ensures { result ≡ fought_of kind ring.now }
+pub fn duel(ring: &[u8], kind: u8) -> Result<Duels, Refusal>
+    ensures { told_duels result ≡ fought_of kind ring.now }
 {
-    let v = judge(ring, kind, false);
-    let Verdict::Taken = v else {
-        return Fought {
-            number: number_of(v),
-            place: place_of(v),
-            start: 0,
-            pairs: 0,
-        };
-    };
-    let end = fight_all(ring);
-    Fought {
-        number: 0,
-        place: 0,
-        start: end.start,
-        pairs: end.pairs,
-    }
+    judge(ring, kind, false)?;
+    Ok(fight_all(ring))
 }

@@ -1,11 +1,10 @@
 // The opposite letter, by a table of every byte.
 ghost use Rattle.std.specs.Prelude.{◌≡◌};
 ghost use Rattle.words.specs.Keys.Facing as facings;
-ghost use Rattle.words.specs.Keys.Facing.{facing_table};
 
 // The letter opposite to each byte: A and T exchanged, C and G, R and Y, K and M, B and V, D and H; S, W, N and every byte that is no letter
 // itself.
-const FACING: [u8; 256] = [
+static FACING: [u8; 256] = [
     0, 1, 2, 3, 4, 5, 6, 7, 8, 9, 10, 11, 12, 13, 14, 15, 16, 17, 18, 19, 20, 21, 22, 23, 24, 25,
     26, 27, 28, 29, 30, 31, 32, 33, 34, 35, 36, 37, 38, 39, 40, 41, 42, 43, 44, 45, 46, 47, 48, 49,
     50, 51, 52, 53, 54, 55, 56, 57, 58, 59, 60, 61, 62, 63, 64, 84, 86, 71, 72, 69, 70, 67, 68, 73,
@@ -21,17 +20,10 @@ const FACING: [u8; 256] = [
     250, 251, 252, 253, 254, 255,
 ];
 
-// The table laid out, once before a loop: a constant that is indexed in a loop is laid out anew for every letter.
-pub fn facing_table() -> [u8; 256]
-    ensures { result ≡ facing_table }
-{
-    FACING
-}
-
 // The opposite letter, looked up in the table.
-pub fn look_up(table: &[u8; 256], a: u8) -> u8
-    requires { table.now ≡ facing_table }
+#[inline(always)]
+pub fn look_up(a: u8) -> u8
     ensures { result ≡ facings.facing a }
 {
-    table[a as usize]
+    FACING[a as usize]
 }

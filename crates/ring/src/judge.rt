@@ -1,112 +1,58 @@
-// The judging of a ring of any of the three kinds: one verdict, in the order 6, 1, 2, 3, 4.
-ghost use Rattle.std.specs.Prelude.{◌≡◌};
-ghost use Rattle.ring.specs.Judging.{first_bad, verdict, number_of, place_of};
-ghost use Rattle.ring.specs.Answers.{checked_as, checked_of};
+// The judging of a ring of any of the three kinds: the first refusal in the order 6, 1, 2, 3, 4.
+ghost use Rattle.std.specs.Prelude.{◌≡◌, ◌<◌, length, IfOk, MatchOption};
+ghost use Rattle.ring.specs.Judging.{first_bad, verdict};
+ghost use Rattle.ring.specs.Answers.{checked_of};
+ghost use Rattle.ring.specs.Numbered.{kind_number};
+ghost use Rattle.ring.specs.Told.{said, told_check};
 
-use super::answer::Checked;
-use super::kind::{is_known, is_letter, letter_table, takes_every_byte};
+use super::kind::{Kind, letter_table};
+use super::refusals::Refusal;
 
 // The most letters that a ring has.
 pub const MOST: usize = 8192;
 
-// What is said of a ring; `Letter` holds the first position that has no letter of the kind, `NotKey` is said of letters judged as a key.
-#[derive(Clone, Copy)]
-pub enum Verdict {
-    Taken,
-    Kind,
-    Empty,
-    Long,
-    Letter(usize),
-    Short,
-    NotKey,
-}
-
-// The number in 01's table.
-pub fn number_of(v: Verdict) -> u8
-    ensures { result ≡ number_of v }
+// The first position that holds no letter of the kind.
+fn first_bad(ring: &[u8], kind: Kind) -> Option<usize>
+    ensures { MatchOption result (first_bad (kind_number kind) ring.now ≡ length ring.now) (λ i. (first_bad (kind_number kind) ring.now ≡ i) × (i < length ring.now)) }
 {
-    match v {
-        Verdict::Taken => 0,
-        Verdict::Kind => 6,
-        Verdict::Empty => 1,
-        Verdict::Long => 2,
-        Verdict::Letter(_) => 3,
-        Verdict::Short => 4,
-        Verdict::NotKey => 7,
-    }
-}
-
-// The place of a wrong letter, 0 for every other verdict.
-pub fn place_of(v: Verdict) -> usize
-    ensures { result ≡ place_of v }
-{
-    match v {
-        Verdict::Taken => 0,
-        Verdict::Kind => 0,
-        Verdict::Empty => 0,
-        Verdict::Long => 0,
-        Verdict::Letter(i) => i,
-        Verdict::Short => 0,
-        Verdict::NotKey => 0,
-    }
-}
-
-// The first position that holds no letter of the kind, the length if there is none.
-fn first_bad(ring: &[u8], kind: u8) -> usize
-    ensures { result ≡ first_bad kind ring.now }
-{
-    let n = ring.len();
-    if takes_every_byte(kind) {
-        return n;
+    // By case: with `==` the goal would be about the derive's own test.
+    if let Kind::Feature = kind {
+        return None;
     }
     let letters = letter_table();
-    let mut i = 0;
-    while i < n {
-        if !is_letter(&letters, kind, ring[i]) {
-            return i;
+    for (i, &a) in ring.iter().enumerate() {
+        if !kind.has_letter(&letters, a) {
+            return Some(i);
         }
-        i += 1;
     }
-    i
+    None
 }
 
-// The verdict; `short` says that a needed table or room has too few entries.
-pub fn judge(ring: &[u8], kind: u8, short: bool) -> Verdict
-    ensures { result ≡ verdict kind ring.now short }
+// The kind of a ring that is taken, made here of the number that the caller told; `short` says that a needed table or room has too few entries.
+pub fn judge(ring: &[u8], kind: u8, short: bool) -> Result<Kind, Refusal>
+    ensures value { said result ≡ verdict kind ring.now short }
+    ensures kind { IfOk result (λ k. kind_number k ≡ kind) }
 {
-    if !is_known(kind) {
-        return Verdict::Kind;
+    let kind = Kind::try_from(kind)?;
+    if ring.is_empty() {
+        return Err(Refusal::NoLetters);
     }
-    let n = ring.len();
-    if n == 0 {
-        return Verdict::Empty;
+    if MOST < ring.len() {
+        return Err(Refusal::TooManyLetters);
     }
-    if MOST < n {
-        return Verdict::Long;
-    }
-    let bad = first_bad(ring, kind);
-    if bad < n {
-        return Verdict::Letter(bad);
+    if let Some(at) = first_bad(ring, kind) {
+        return Err(Refusal::WrongLetter(at));
     }
     if short {
-        return Verdict::Short;
+        return Err(Refusal::NoRoom);
     }
-    Verdict::Taken
+    Ok(kind)
 }
 
-// A verdict as an answer that has nothing else.
-pub fn said(v: Verdict) -> Checked
-    ensures { result ≡ checked_as v }
+// A ring judged alone: what every call on a ring judges that is lent no table and no room.
+pub fn check(ring: &[u8], kind: u8) -> Result<(), Refusal>
+    ensures { told_check result ≡ checked_of kind ring.now }
 {
-    Checked {
-        number: number_of(v),
-        place: place_of(v),
-    }
-}
-
-// A ring judged alone: the number and place of a call on a ring that is lent no table and no room.
-pub fn check(ring: &[u8], kind: u8) -> Checked
-    ensures { result ≡ checked_of kind ring.now }
-{
-    said(judge(ring, kind, false))
+    judge(ring, kind, false)?;
+    Ok(())
 }

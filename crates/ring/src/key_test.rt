@@ -1,77 +1,88 @@
 // Letters judged as a key with a start and a strand.
-ghost use Rattle.std.specs.Prelude.{◌≡◌, ◌<◌, length};
+ghost use Rattle.std.specs.Prelude.{◌≡◌, ◌<◌, length, IfOk};
 ghost use Rattle.ring.specs.Judging.{Permitted};
+ghost use Rattle.ring.specs.Numbered.{kind_number, strand_number};
 ghost use Rattle.ring.specs.Strands.{left_to};
+ghost use Rattle.ring.specs.Told.{said, told_marks};
 ghost use Rattle.ring.specs.Answers.{is_key, as_key, key_marks_of};
 
-use super::answer::Marked;
-use super::facing::facing_table;
 use super::factor::first_run;
-use super::judge::{Verdict, judge};
-use super::kind::has_opposite;
-use super::marking::{done_with, refused};
+use super::judge::judge;
+use super::kind::Kind;
+use super::outcome::Marks;
 use super::reading::lower;
+use super::refusals::Refusal;
+use super::side::Side;
 use super::start::start_of;
+use super::strand::Strand;
 
 // Whether the opposite strand leaves the key to these letters: it has no lesser reading, and on strand 1 none as low.
-fn left_to(letters: &[u8], strand: u8) -> bool
+fn left_to(letters: &[u8], strand: Strand) -> bool
     requires { 0 < length letters.now }
-    ensures { result ≡ left_to letters.now strand }
+    ensures { result ≡ left_to letters.now (strand_number strand) }
 {
-    let facing = facing_table();
-    let b = start_of(&facing, letters, 1);
-    if strand == 1 {
-        return lower(&facing, letters, 0, 0, letters, 1, b);
+    let own = Side::given(letters);
+    let other = Side::opposite(letters);
+    let b = start_of(&other);
+    match strand {
+        Strand::Given => !lower(&other, b, &own, 0),
+        Strand::Opposite => lower(&own, 0, &other, b),
     }
-    !lower(&facing, letters, 1, b, letters, 0, 0)
 }
 
-// Whether some permitted ring has these permitted letters for its key, with this start and strand.
-fn is_key(letters: &[u8], kind: u8, start: usize, strand: u8) -> bool
-    requires { Permitted kind letters.now }
-    ensures { result ≡ is_key kind letters.now start strand }
+// Whether some permitted ring has these permitted letters for its key, with this start and strand. (With `==` on a strand the goal would be about
+// the derive's own test, so cases it is.)
+fn is_key(letters: &[u8], kind: Kind, start: usize, strand: Strand) -> bool
+    requires { Permitted (kind_number kind) letters.now }
+    ensures { result ≡ is_key (kind_number kind) letters.now start (strand_number strand) }
 {
-    let facing = facing_table();
-    let f = first_run(&facing, letters, 0);
-    if f.end != letters.len() {
+    let run = first_run(&Side::given(letters));
+    if run.end != letters.len() {
         return false;
     }
-    if f.size <= start {
+    if run.size <= start {
         return false;
     }
-    if has_opposite(kind) {
-        if 1 < strand {
-            return false;
-        }
+    if kind.has_opposite() {
         return left_to(letters, strand);
     }
-    strand == 0
+    match strand {
+        Strand::Given => true,
+        Strand::Opposite => false,
+    }
 }
 
-// The verdict on letters judged as a key: 6, 1, 2, 3, 7, 4.
-pub fn judge_key(letters: &[u8], kind: u8, start: usize, strand: u8, short: bool) -> Verdict
-    ensures { result ≡ as_key kind letters.now start strand short }
+// The strand of letters that are a key, made here of the number that the caller told; else why they are none: 6, 1, 2, 3, 7, 4. `short` is a yes
+// or no with no value beside it, and the four marks are those of the two public calls.
+pub fn judge_key(
+    letters: &[u8],
+    kind: u8,
+    start: usize,
+    strand: u8,
+    short: bool,
+) -> Result<Strand, Refusal>
+    ensures value { said result ≡ as_key kind letters.now start strand short }
+    ensures strand { IfOk result (λ s. strand_number s ≡ strand) }
 {
-    let v = judge(letters, kind, false);
-    let Verdict::Taken = v else {
-        return v;
-    };
+    let kind = judge(letters, kind, false)?;
+    let strand = Strand::try_from(strand)?;
     if !is_key(letters, kind, start, strand) {
-        return Verdict::NotKey;
+        return Err(Refusal::NoKey);
     }
     if short {
-        return Verdict::Short;
+        return Err(Refusal::NoRoom);
     }
-    Verdict::Taken
+    Ok(strand)
 }
 
 // Letters judged as a key: its marks, or why no ring has it.
-pub fn check_key(letters: &[u8], kind: u8, start: usize, strand: u8) -> Marked
-    ensures { result ≡ key_marks_of kind letters.now start strand }
+pub fn check_key(letters: &[u8], kind: u8, start: usize, strand: u8) -> Result<Marks, Refusal>
+    ensures { told_marks result ≡ key_marks_of kind letters.now start strand }
 {
-    let v = judge_key(letters, kind, start, strand, false);
-    let Verdict::Taken = v else {
-        return refused(v);
-    };
-    done_with(letters.len(), start, strand)
+    let strand = judge_key(letters, kind, start, strand, false)?;
+    Ok(Marks {
+        n: letters.len(),
+        start,
+        strand,
+    })
 }

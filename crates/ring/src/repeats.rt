@@ -1,49 +1,48 @@
 // The repeat of a ring, from the run of equal factors that begins at its start.
-ghost use Rattle.std.specs.Prelude.{◌≡◌, ◌↔◌, true, ◌<◌, ◌≤◌, ◌+◌, length, drop};
+ghost use Rattle.std.specs.Prelude.{◌≡◌, ◌↔◌, true, ◌<◌, ◌≤◌, length, drop};
 ghost use Rattle.words.specs.Rings.Ring.{start};
 ghost use Rattle.words.specs.Factors.Factor.{FirstRun};
 ghost use Rattle.words.specs.Duels.Paired.{Paired};
 ghost use Rattle.words.specs.Repeats.Repeat as defined;
-ghost use Rattle.words.specs.Keys.Facing.{facing_table};
 ghost use Rattle.ring.specs.Answers.{repeated_of};
+ghost use Rattle.ring.specs.Told.{told_repeat};
 
-use super::answer::Repeated;
-use super::facing::facing_table;
-use super::judge::{Verdict, judge, number_of, place_of};
-use super::reading::letter;
+use super::judge::judge;
+use super::refusals::Refusal;
+use super::side::Side;
 use super::start::{StartRun, start_run};
 
-// Whether the `size` letters from `from` on are those from `at` on, round the ring.
-fn same_letters(facing: &[u8; 256], ring: &[u8], from: usize, at: usize, size: usize) -> bool
-    requires { (facing.now ≡ facing_table) × (from ≤ length ring.now) × (at ≤ length ring.now) × (size ≤ length ring.now) }
+// Whether the `size` letters from `from` on are those from `at` on, round the ring. (`meet` asks for positions below n and reads n letters; these
+// may be n, and `size` letters are read.)
+fn same_letters(ring: &Side, from: usize, at: usize, size: usize) -> bool
+    requires { (from ≤ length ring.now) × (at ≤ length ring.now) × (size ≤ length ring.now) }
     ensures { (result ≡ true) ↔ Paired ring.now ring.now from at size }
 {
-    let mut k: usize = 0;
-    while k < size {
-        if letter(facing, ring, 0, from + k) != letter(facing, ring, 0, at + k) {
+    for k in 0..size {
+        if ring.around(from, k) != ring.around(at, k) {
             return false;
         }
-        k += 1;
     }
     true
 }
 
 // The repeat is the factor's length where the run at the start goes round the whole ring, or where it stops one factor short, the ring
-// being opened inside a factor, and the factor's letters stand there once more; else it is n.
-fn repeat_of(facing: &[u8; 256], ring: &[u8], run: StartRun) -> usize
-    requires facing_value { (facing.now ≡ facing_table) × (0 < length ring.now) × (run.start ≡ start ring.now) }
-    requires first_run { FirstRun (drop run.start ring.now) run.size run.end }
+// being opened inside a factor, and the factor's letters stand there once more; else it is n. What a run is, is said of the ring too, so
+// `StartRun` does not carry it.
+fn repeat_of(ring: &Side, found: StartRun) -> usize
+    requires in_ring { (0 < length ring.now) × (found.start ≡ start ring.now) }
+    requires run { FirstRun (drop found.start ring.now) found.run.size found.run.end }
     ensures { result ≡ defined.repeat ring.now }
 {
     let n = ring.len();
-    let start = run.start;
-    let size = run.size;
-    let end = run.end;
+    let start = found.start;
+    let size = found.run.size;
+    let end = found.run.end;
     if end == n {
         return size;
     }
     if n - end == size {
-        if same_letters(facing, ring, start + end, start, size) {
+        if same_letters(ring, start + end, start, size) {
             return size;
         }
     }
@@ -51,22 +50,10 @@ fn repeat_of(facing: &[u8; 256], ring: &[u8], run: StartRun) -> usize
 }
 
 // The smallest p from 1 to n such that turning the ring by p gives the same letters at every position.
-pub fn repeat(ring: &[u8], kind: u8) -> Repeated
-    ensures { result ≡ repeated_of kind ring.now }
+pub fn repeat(ring: &[u8], kind: u8) -> Result<usize, Refusal>
+    ensures { told_repeat result ≡ repeated_of kind ring.now }
 {
-    let v = judge(ring, kind, false);
-    let Verdict::Taken = v else {
-        return Repeated {
-            number: number_of(v),
-            place: place_of(v),
-            repeat: 0,
-        };
-    };
-    let facing = facing_table();
-    let run = start_run(&facing, ring, 0);
-    Repeated {
-        number: 0,
-        place: 0,
-        repeat: repeat_of(&facing, ring, run),
-    }
+    judge(ring, kind, false)?;
+    let side = Side::given(ring);
+    Ok(repeat_of(&side, start_run(&side)))
 }

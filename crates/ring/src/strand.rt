@@ -1,78 +1,65 @@
-// A ring on a strand, read where it stands: letter i of the opposite strand is the one that faces letter n - 1 - i.
-ghost use Rattle.std.specs.Prelude.{◌≡◌, ◌<◌, ◌≤◌, length, take, drop, get_or};
-ghost use Rattle.words.specs.Keys.Strand.{on_strand};
-ghost use Rattle.words.specs.Keys.Facing.{facing_table};
+// The two strands of a ring.
+ghost use Rattle.std.specs.Prelude.{◌≡◌, ◌<◌};
+ghost use Rattle.ring.specs.Numbered.{strand_number, strand_numbered};
 ghost use Rattle.ring.specs.OnStrand.{place_on, shown_on};
-ghost use Rattle.ring.specs.Judging.{over};
 
 use super::facing::look_up;
+use super::refusals::Refusal;
 
-// Where letter `i` of a strand stands in a ring of n letters.
-pub fn place(strand: u8, n: usize, i: usize) -> usize
-    requires { i < n }
-    ensures { (result ≡ place_on strand n i) × (result < n) }
-{
-    if strand == 1 {
-        return n - 1 - i;
-    }
-    i
+// The ring as given, strand 0, and the opposite strand, 1.
+#[derive(Clone, Copy, Debug, PartialEq, Eq)]
+pub enum Strand {
+    Given,
+    Opposite,
 }
 
-// A letter of the ring as it is read on a strand.
-pub fn shown(facing: &[u8; 256], strand: u8, a: u8) -> u8
-    requires { facing.now ≡ facing_table }
-    ensures { result ≡ shown_on strand a }
-{
-    if strand == 1 {
-        return look_up(facing, a);
+impl From<Strand> for u8 {
+    ghost from_gives = { λ strand n. n ≡ strand_number strand };
+
+    fn from(strand: Strand) -> u8 {
+        match strand {
+            Strand::Given => 0,
+            Strand::Opposite => 1,
+        }
     }
-    a
 }
 
-// The letter at position `i` of a strand.
-pub fn letter_at(facing: &[u8; 256], s: &[u8], strand: u8, i: usize) -> u8
-    requires { (facing.now ≡ facing_table) × (i < length s.now) }
-    ensures { result ≡ get_or (on_strand strand s.now) i 0 }
-{
-    if strand == 1 {
-        return look_up(facing, s[s.len() - 1 - i]);
+// A number of 2 or more is no strand's, and no ring has a key there. A sheet counts such a byte among its wrong marks.
+impl TryFrom<u8> for Strand {
+    type Error = Refusal;
+
+    ghost try_from_gives = { λ n r. r ≡ strand_numbered n };
+
+    fn try_from(number: u8) -> Result<Strand, Refusal> {
+        match number {
+            0 => Ok(Strand::Given),
+            1 => Ok(Strand::Opposite),
+            _ => Err(Refusal::NoKey),
+        }
     }
-    s[i]
 }
 
-// The part of a ring that holds the letters of a strand from position `m` on.
-pub fn back_of<'a>(s: &'a [u8], strand: u8, m: usize) -> &'a [u8]
-    requires { m ≤ length s.now }
-    ensures { on_strand strand result.now ≡ drop m (on_strand strand s.now) }
-{
-    if strand == 1 {
-        let end = s.len() - m;
-        return &s[..end];
+impl Strand {
+    // Where letter `i` of the strand stands in a ring of n letters: letter i of the opposite strand is the one that faces letter n - 1 - i.
+    #[inline(always)]
+    pub(crate) fn place(self, n: usize, i: usize) -> usize
+        requires { i < n }
+        ensures { (result ≡ place_on (strand_number self) n i) × (result < n) }
+    {
+        match self {
+            Strand::Given => i,
+            Strand::Opposite => n - 1 - i,
+        }
     }
-    &s[m..]
-}
 
-// The part of a ring that holds the letters of a strand before position `m`.
-pub fn front_of<'a>(s: &'a [u8], strand: u8, m: usize) -> &'a [u8]
-    requires { m ≤ length s.now }
-    ensures { on_strand strand result.now ≡ take m (on_strand strand s.now) }
-{
-    if strand == 1 {
-        let end = s.len() - m;
-        return &s[end..];
-    }
-    &s[..m]
-}
-
-// Writes the letters of a strand to the front of a room.
-pub fn copy(facing: &[u8; 256], from: &[u8], strand: u8, to: &mut [u8])
-    requires { (facing.now ≡ facing_table) × (length from.now ≤ length to.old) }
-    ensures { to.new ≡ over (on_strand strand from.now) to.old }
-{
-    let n = from.len();
-    let mut i = 0;
-    while i < n {
-        to[i] = letter_at(facing, from, strand, i);
-        i += 1;
+    // A letter of the ring as it is read on the strand.
+    #[inline(always)]
+    pub(crate) fn shown(self, a: u8) -> u8
+        ensures { result ≡ shown_on (strand_number self) a }
+    {
+        match self {
+            Strand::Given => a,
+            Strand::Opposite => look_up(a),
+        }
     }
 }

@@ -1,125 +1,119 @@
 // Every call on one line, for rings of any length: the answers, and behind each lent table or room = where it stayed as it
 // was lent and ! where it was written.
-use super::{keys, tables};
-use shown::{FRESH, Out, bar, labelled, line, marked, middle, middle_entries, named, text};
+use ring::{Checked, Factored, Fought, MOST, Marked, Repeated};
+use shown::{FRESH, Out, middle};
+use std::fmt::Display;
 
-// Whether every entry still is as it was lent.
-fn fresh(t: &[u16]) -> bool {
-    for v in t {
-        if *v != FRESH {
-            return false;
-        }
-    }
-    true
+// The entries of a room or table, of which one more than a sheet of the longest ring is lent, with one before and some behind.
+const ROOM: usize = MOST + 20;
+
+// = where every entry still is as it was lent, and else !.
+fn kept<T: PartialEq>(out: &mut Out, lent: &[T], fresh: &T) {
+    out.text(if lent.iter().all(|v| v == fresh) {
+        b" ="
+    } else {
+        b" !"
+    });
 }
 
-// Whether every byte still is as it was lent.
-fn blank(s: &[u8]) -> bool {
-    for b in s {
-        if *b != b'.' {
-            return false;
-        }
-    }
-    true
+// A bar, and the answer of a call that is lent `size` entries of a fresh room or table. The room is made where its type is known, so
+// that its size is.
+fn lent<T: PartialEq, A: Display + Drop, F: FnOnce(&mut [T]) -> A>(
+    out: &mut Out,
+    room: &mut [T],
+    fresh: &T,
+    size: usize,
+    call: F,
+)
+    requires { F.IsAlwaysCallable call }
+{
+    out.bar();
+    out.answer(call(middle(room, size)));
+    kept(out, room, fresh);
 }
 
-fn kept(out: &mut Out, b: bool) {
-    if b {
-        text(out, b" =");
-        return;
-    }
-    text(out, b" !");
-}
-
-fn table(out: &mut Out, call: tables::Call, ring: &[u8], kind: u8, size: usize) {
-    let mut lent = [FRESH; 8204];
-    bar(out);
-    tables::fill(out, call, ring, kind, middle_entries(&mut lent, size));
-    kept(out, fresh(&lent));
-}
-
-fn key(out: &mut Out, call: keys::Call, ring: &[u8], kind: u8, size: usize) {
-    let mut first = [b'.'; 8204];
-    let mut second = [b'.'; 8204];
-    bar(out);
-    keys::write(
-        out,
-        call,
-        ring,
-        kind,
-        middle(&mut first, size),
-        middle(&mut second, size),
-    );
-    kept(out, blank(&first));
-    kept(out, blank(&second));
-}
-
-fn write_letters(out: &mut Out, ring: &[u8], kind: u8, size: usize) {
-    let mut room = [b'.'; 8204];
-    bar(out);
-    marked(
-        out,
-        ring::write_letters(ring, kind, middle(&mut room, size)),
-    );
-    kept(out, blank(&room));
-}
-
-// The ring's own letters judged as a key at start 0 of strand 0, and the deposit that has it.
-fn as_key(out: &mut Out, ring: &[u8], kind: u8, size: usize) {
-    let mut room = [b'.'; 8204];
-    bar(out);
-    marked(out, ring::check_key(ring, kind, 0, 0));
-    bar(out);
-    marked(
-        out,
-        ring::write_deposit(ring, kind, 0, 0, middle(&mut room, size)),
-    );
-    kept(out, blank(&room));
-}
-
-// The sheet's room has 8 bytes more than the others.
-fn write(out: &mut Out, ring: &[u8], kind: u8, size: usize) {
-    if 8200 < size {
-        return;
-    }
-    let mut room = [b'.'; 8212];
-    bar(out);
-    marked(out, sheet::write(ring, kind, middle(&mut room, size + 8)));
-    kept(out, blank(&room));
+// A bar, and the answer of a call that is lent two rooms of `size` bytes: a call of another shape, so not the function above.
+fn lent_two<A: Display + Drop, F: FnOnce(&mut [u8], &mut [u8]) -> A>(
+    out: &mut Out,
+    size: usize,
+    call: F,
+)
+    requires { F.IsAlwaysCallable call }
+{
+    let mut first = [b'.'; ROOM];
+    let mut second = [b'.'; ROOM];
+    out.bar();
+    out.answer(call(middle(&mut first, size), middle(&mut second, size)));
+    kept(out, &first, &b'.');
+    kept(out, &second, &b'.');
 }
 
 // The calls that are lent nothing.
 fn plain(out: &mut Out, ring: &[u8], kind: u8) {
-    shown::checked(out, ring::check(ring, kind));
-    bar(out);
-    shown::fought(out, ring::duel(ring, kind));
-    bar(out);
-    shown::repeated(out, ring::repeat(ring, kind));
-    bar(out);
-    marked(out, ring::mark(ring, kind));
+    out.answer(Checked::from(ring::check(ring, kind)));
+    out.bar();
+    out.answer(Fought::from(ring::duel(ring, kind)));
+    out.bar();
+    out.answer(Repeated::from(ring::repeat(ring, kind)));
+    out.bar();
+    out.answer(Marked::from(ring::mark(ring, kind)));
 }
 
-// The ring, its kind, and how much room each table and room has.
-fn heading(out: &mut Out, ring: &[u8], kind: u8, size: usize) {
-    text(out, b"EDGE");
-    named(out, ring);
-    labelled(out, b" kind", kind as usize);
-    labelled(out, b" room", size);
-    line(out);
+// The calls that fill a table.
+fn tables(out: &mut Out, ring: &[u8], kind: u8, size: usize) {
+    lent(out, &mut [FRESH; ROOM], &FRESH, size, |table| {
+        Factored::from(ring::factors(ring, kind, table))
+    });
+    lent(out, &mut [FRESH; ROOM], &FRESH, size, |table| {
+        Checked::from(ring::suffixes(ring, kind, table))
+    });
+    lent(out, &mut [FRESH; ROOM], &FRESH, size, |table| {
+        Checked::from(ring::starts(ring, kind, table))
+    });
+}
+
+// The calls that write to one room; the ring's own letters are judged as a key at start 0 of strand 0.
+fn letters(out: &mut Out, ring: &[u8], kind: u8, size: usize) {
+    lent(out, &mut [b'.'; ROOM], &b'.', size, |room| {
+        Marked::from(ring::write_letters(ring, kind, room))
+    });
+    out.bar();
+    out.answer(Marked::from(ring::check_key(ring, kind, 0, 0)));
+    lent(out, &mut [b'.'; ROOM], &b'.', size, |room| {
+        Marked::from(ring::write_deposit(ring, kind, 0, 0, room))
+    });
+}
+
+// The sheet, whose room has 8 bytes more than the others.
+fn sheet(out: &mut Out, ring: &[u8], kind: u8, size: usize) {
+    let size = size.saturating_add(8);
+    lent(out, &mut [b'.'; ROOM], &b'.', size, |room| {
+        Marked::from(sheet::write(ring, kind, room))
+    });
+}
+
+// The calls that write a key to one of two rooms, and how many letters come back.
+fn keys(out: &mut Out, ring: &[u8], kind: u8, size: usize) {
+    lent_two(out, size, |first, second| {
+        Marked::from(ring::write_key(ring, kind, first, second))
+    });
+    lent_two(out, size, |first, second| {
+        ring::key(ring, kind, first, second).len()
+    });
 }
 
 // The answers in the order check, duel, repeat, mark, factors, suffixes, starts, write_letters, check_key, write_deposit,
 // write_key, key, write.
 pub fn brief(out: &mut Out, ring: &[u8], kind: u8, size: usize) {
-    heading(out, ring, kind, size);
+    out.text(b"EDGE");
+    out.named(ring);
+    out.labelled(b" kind", kind);
+    out.labelled(b" room", size);
+    out.line();
     plain(out, ring, kind);
-    table(out, tables::Call::Factors, ring, kind, size);
-    table(out, tables::Call::Suffixes, ring, kind, size);
-    table(out, tables::Call::Starts, ring, kind, size);
-    write_letters(out, ring, kind, size);
-    as_key(out, ring, kind, size);
-    key(out, keys::Call::Marks, ring, kind, size);
-    key(out, keys::Call::Size, ring, kind, size);
-    write(out, ring, kind, size);
-    line(out);
+    tables(out, ring, kind, size);
+    letters(out, ring, kind, size);
+    keys(out, ring, kind, size);
+    sheet(out, ring, kind, size);
+    out.line();
 }

@@ -1,153 +1,95 @@
-// One call of `ring` each, on a short ring: its answer, and what it was lent with an entry before and one behind.
+// Every call of `ring` on a short ring: its answer, and what it was lent with an entry before and one behind. A ring and its kind stay
+// two parameters, as every call of `ring` takes them.
+use super::keys::{key, write_key};
 use super::letters::written;
-use super::{keys, tables, turns};
-use shown::{FRESH, Out, entries, front, labelled, letters, line, middle, middle_entries, text};
+use super::tables::{factors, starts, suffixes};
+use super::turns::{opposite, turn};
+use ring::{Checked, Compared, Fought, Marked, Repeated};
+use shown::{Out, middle};
+use std::fmt::Display;
 
-fn check(out: &mut Out, ring: &[u8], kind: u8) {
-    text(out, b"check");
-    shown::checked(out, ring::check(ring, kind));
-    line(out);
-}
+// The entries of a short room or table.
+pub const SHORT: usize = 32;
 
-// A call lent a table of `size` entries.
-pub fn table(out: &mut Out, call: tables::Call, ring: &[u8], kind: u8, size: usize) {
-    if 30 < size {
-        return;
-    }
-    let mut lent = [FRESH; 32];
-    tables::name(out, call);
-    tables::fill(out, call, ring, kind, middle_entries(&mut lent, size));
-    text(out, b" :");
-    entries(out, &lent, size + 2);
-    line(out);
-}
+// How many of them may be lent, with one before and one behind. A call asks where it lends: a `requires` would ask every case of a
+// loop for its size.
+pub const LENT: usize = SHORT - 2;
 
-fn duel(out: &mut Out, ring: &[u8], kind: u8) {
-    text(out, b"duel");
-    shown::fought(out, ring::duel(ring, kind));
-    line(out);
-}
-
-fn repeat(out: &mut Out, ring: &[u8], kind: u8) {
-    text(out, b"repeat");
-    shown::repeated(out, ring::repeat(ring, kind));
-    line(out);
-}
-
-fn mark(out: &mut Out, ring: &[u8], kind: u8) {
-    text(out, b"mark");
-    shown::marked(out, ring::mark(ring, kind));
-    line(out);
-}
-
-fn write_letters(out: &mut Out, ring: &[u8], kind: u8) {
-    text(out, b"write_letters");
-    written(out, ring, kind, ring.len());
-    line(out);
+// A call that is lent nothing.
+fn call(out: &mut Out, name: &[u8], answer: impl Display + Drop) {
+    out.labelled(name, answer);
+    out.line();
 }
 
 // The key's letters judged, and turned back into the ring.
 fn write_deposit(out: &mut Out, key: &[u8], kind: u8, start: usize, strand: u8) {
     let n = key.len();
-    if 30 < n {
+    if LENT < n {
         return;
     }
-    let mut room = [b'.'; 32];
-    text(out, b"check_key");
-    shown::marked(out, ring::check_key(key, kind, start, strand));
-    text(out, b"\nwrite_deposit");
-    shown::marked(
-        out,
-        ring::write_deposit(key, kind, start, strand, middle(&mut room, n)),
-    );
-    text(out, b" :");
-    front(out, &room, n + 2);
-    line(out);
+    let judged = Marked::from(ring::check_key(key, kind, start, strand));
+    call(out, b"check_key", judged);
+    let mut room = [b'.'; SHORT];
+    let lent = middle(&mut room, n);
+    let written = Marked::from(ring::write_deposit(key, kind, start, strand, lent));
+    out.labelled(b"write_deposit", written);
+    out.text(b" :");
+    out.letters(&room[..n + 2]);
+    out.line();
 }
 
 // The key made, and the ring had back from it.
 fn back(out: &mut Out, ring: &[u8], kind: u8) {
-    let n = ring.len();
-    if 32 < n {
-        return;
+    let mut room = [0u8; SHORT];
+    let m = Marked::from(ring::write_letters(ring, kind, &mut room));
+    if let Some(key) = room.get(..ring.len()) {
+        write_deposit(out, key, kind, m.start, m.strand);
     }
-    let mut room = [0u8; 32];
-    let m = ring::write_letters(ring, kind, &mut room);
-    write_deposit(out, &room[0..n], kind, m.start, m.strand);
-}
-
-// A call lent two rooms, of `one` and of `two` bytes.
-pub fn key(out: &mut Out, call: keys::Call, ring: &[u8], kind: u8, one: usize, two: usize) {
-    if 30 < one {
-        return;
-    }
-    if 30 < two {
-        return;
-    }
-    let mut first = [b'.'; 32];
-    let mut second = [b'.'; 32];
-    keys::name(out, call);
-    keys::write(
-        out,
-        call,
-        ring,
-        kind,
-        middle(&mut first, one),
-        middle(&mut second, two),
-    );
-    text(out, b" :");
-    front(out, &first, one + 2);
-    front(out, &second, two + 2);
-    line(out);
 }
 
 pub fn compare(out: &mut Out, first: &[u8], second: &[u8], kind: u8) {
-    text(out, b"compare");
-    letters(out, first);
-    letters(out, second);
-    text(out, b" :");
-    shown::compared(out, ring::compare(first, second, kind));
-    line(out);
+    out.text(b"compare");
+    out.letters(first);
+    out.letters(second);
+    out.labelled(b" :", Compared::from(ring::compare(first, second, kind)));
+    out.line();
 }
 
 // The ring against its own turns by one letter, of its strand and of the opposite one.
 fn turned(out: &mut Out, ring: &[u8], kind: u8) {
-    let n = ring.len();
-    if 32 < n {
+    let mut room = [0u8; SHORT];
+    let Some(other) = room.get_mut(..ring.len()) else {
         return;
-    }
-    let mut room = [0u8; 32];
-    turns::turn(ring, &mut room);
-    compare(out, ring, &room[0..n], kind);
-    let mut other = [0u8; 32];
-    turns::opposite(ring, &mut other);
-    turns::turn(&other[0..n], &mut room);
-    compare(out, ring, &room[0..n], kind);
+    };
+    other.copy_from_slice(ring);
+    turn(other);
+    compare(out, ring, other, kind);
+    other.copy_from_slice(ring);
+    opposite(other);
+    turn(other);
+    compare(out, ring, other, kind);
 }
 
 // Every call on one ring, with tables and rooms of just n entries.
 pub fn every(out: &mut Out, ring: &[u8], kind: u8) {
     let n = ring.len();
-    text(out, b"RING");
-    letters(out, ring);
-    labelled(out, b" kind", kind as usize);
-    line(out);
-    check(out, ring, kind);
-    table(out, tables::Call::Factors, ring, kind, n);
-    table(out, tables::Call::Suffixes, ring, kind, n);
-    table(out, tables::Call::Starts, ring, kind, n);
-    duel(out, ring, kind);
-    repeat(out, ring, kind);
-    compared(out, ring, kind, n);
-}
-
-// The key, the ring had back from it, and the ring compared with itself and its turns.
-fn compared(out: &mut Out, ring: &[u8], kind: u8, n: usize) {
-    mark(out, ring, kind);
-    write_letters(out, ring, kind);
+    out.text(b"RING");
+    out.letters(ring);
+    out.labelled(b" kind", kind);
+    out.line();
+    call(out, b"check", Checked::from(ring::check(ring, kind)));
+    factors(out, ring, kind, n);
+    suffixes(out, ring, kind, n);
+    starts(out, ring, kind, n);
+    call(out, b"duel", Fought::from(ring::duel(ring, kind)));
+    call(out, b"repeat", Repeated::from(ring::repeat(ring, kind)));
+    call(out, b"mark", Marked::from(ring::mark(ring, kind)));
+    out.text(b"write_letters");
+    written(out, ring, kind, n);
+    out.line();
     back(out, ring, kind);
-    key(out, keys::Call::Marks, ring, kind, n, n);
-    key(out, keys::Call::Letters, ring, kind, n, n);
+    write_key(out, ring, kind, n, n);
+    key(out, ring, kind, n, n);
     compare(out, ring, ring, kind);
     turned(out, ring, kind);
 }

@@ -1,150 +1,225 @@
 // Letters judged as a key, and the deposit that has the key written to a room.
-use shown::{Out, bar, front, labelled, letters, line, marked, middle, text};
+use super::calls::{LENT, SHORT};
+use super::edges::LONG;
+use ring::{MOST, Marked};
+use shown::{Out, middle};
 
-// What both calls are told: letters, a kind, a start and a strand.
-fn told(out: &mut Out, s: &[u8], kind: u8, start: usize, strand: u8) {
-    letters(out, s);
-    labelled(out, b" kind", kind as usize);
-    labelled(out, b" start", start);
-    labelled(out, b" strand", strand as usize);
+// What both calls are told.
+#[derive(Clone, Copy)]
+struct Key<'a> {
+    letters: &'a [u8],
+    kind: u8,
+    start: usize,
+    strand: u8,
 }
 
-fn judged(out: &mut Out, s: &[u8], kind: u8, start: usize, strand: u8) {
-    text(out, b"CHECK_KEY");
-    told(out, s, kind, start, strand);
-    text(out, b" :");
-    marked(out, ring::check_key(s, kind, start, strand));
-    line(out);
-}
-
-// The deposit in a room of `size` bytes, with a byte before the lent ones and one behind.
-fn deposited(out: &mut Out, s: &[u8], kind: u8, start: usize, strand: u8, size: usize) {
-    if 30 < size {
-        return;
+impl Key<'_> {
+    fn told(self, out: &mut Out) {
+        out.letters(self.letters);
+        out.labelled(b" kind", self.kind);
+        out.labelled(b" start", self.start);
+        out.labelled(b" strand", self.strand);
     }
-    let mut room = [b'.'; 32];
-    text(out, b"WRITE_DEPOSIT");
-    told(out, s, kind, start, strand);
-    labelled(out, b" room", size);
-    text(out, b" :");
-    marked(
-        out,
-        ring::write_deposit(s, kind, start, strand, middle(&mut room, size)),
-    );
-    front(out, &room, size + 2);
-    line(out);
+
+    fn judged(self, out: &mut Out) {
+        out.text(b"CHECK_KEY");
+        self.told(out);
+        let marks = ring::check_key(self.letters, self.kind, self.start, self.strand);
+        out.labelled(b" :", Marked::from(marks));
+        out.line();
+    }
+
+    // The deposit in a room of `size` bytes, with a byte before the lent ones and one behind.
+    fn deposited(self, out: &mut Out, size: usize) {
+        if LENT < size {
+            return;
+        }
+        let mut room = [b'.'; SHORT];
+        out.text(b"WRITE_DEPOSIT");
+        self.told(out);
+        out.labelled(b" room", size);
+        let written = ring::write_deposit(
+            self.letters,
+            self.kind,
+            self.start,
+            self.strand,
+            middle(&mut room, size),
+        );
+        out.labelled(b" :", Marked::from(written));
+        out.letters(&room[..size + 2]);
+        out.line();
+    }
 }
 
-// Base rings.
+// Letters of one kind judged as keys.
+fn judged(out: &mut Out, kind: u8, keys: &[(&[u8], usize, u8)]) {
+    for &(letters, start, strand) in keys {
+        Key {
+            letters,
+            kind,
+            start,
+            strand,
+        }
+        .judged(out);
+    }
+}
+
+// The deposits that have keys of one kind, each in a room of the size named last, which `judged` has no use for.
+fn deposited(out: &mut Out, kind: u8, keys: &[(&[u8], usize, u8, usize)]) {
+    for &(letters, start, strand, size) in keys {
+        Key {
+            letters,
+            kind,
+            start,
+            strand,
+        }
+        .deposited(out, size);
+    }
+}
+
+// Base rings: ACAC and ACGT, which are their own opposites, readings that are no key, rings of one letter, and a letter that is none.
 pub fn bases(out: &mut Out) {
-    judged(out, b"AATCTGT", 1, 3, 1);
-    judged(out, b"AATCTGT", 1, 6, 0);
-    judged(out, b"AATCTGT", 1, 7, 0);
-    judged(out, b"AATCTGT", 1, 3, 2);
-    judged(out, b"ACAC", 1, 0, 0);
-    judged(out, b"ACAC", 1, 1, 0);
-    judged(out, b"ACAC", 1, 2, 0);
-    judged(out, b"ACAC", 1, 1, 1);
-    more_bases(out);
-}
-
-// A ring that is its own opposite, readings that are no key, rings of one letter, and a letter that is none.
-fn more_bases(out: &mut Out) {
-    judged(out, b"ACGT", 1, 3, 0);
-    judged(out, b"ACGT", 1, 0, 1);
-    judged(out, b"ACAGATT", 1, 4, 0);
-    judged(out, b"CA", 1, 0, 0);
-    judged(out, b"ACA", 1, 0, 0);
-    judged(out, b"T", 1, 0, 0);
-    judged(out, b"A", 1, 0, 1);
-    judged(out, b"A", 1, 1, 0);
-    judged(out, b"AAN", 1, 0, 0);
+    judged(
+        out,
+        1,
+        &[
+            (b"AATCTGT", 3, 1),
+            (b"AATCTGT", 6, 0),
+            (b"AATCTGT", 7, 0),
+            (b"AATCTGT", 3, 2),
+            (b"ACAC", 0, 0),
+            (b"ACAC", 1, 0),
+            (b"ACAC", 2, 0),
+            (b"ACAC", 1, 1),
+            (b"ACGT", 3, 0),
+            (b"ACGT", 0, 1),
+            (b"ACAGATT", 4, 0),
+            (b"CA", 0, 0),
+            (b"ACA", 0, 0),
+            (b"T", 0, 0),
+            (b"A", 0, 1),
+            (b"A", 1, 0),
+            (b"AAN", 0, 0),
+        ],
+    );
 }
 
 // Rings of kind 2: keys on both strands, a tie, a reading that is no key, and a byte that is no letter.
 pub fn uncertain(out: &mut Out) {
-    judged(out, b"AKN", 2, 2, 0);
-    judged(out, b"AKN", 2, 1, 1);
-    judged(out, b"ANNT", 2, 0, 0);
-    judged(out, b"ANNT", 2, 0, 1);
-    judged(out, b"NAK", 2, 0, 0);
-    judged(out, b"AKn", 2, 0, 0);
-    deposited(out, b"AKN", 2, 2, 0, 3);
-    deposited(out, b"AKN", 2, 1, 1, 4);
-    deposited(out, b"AKN", 2, 1, 1, 2);
+    judged(
+        out,
+        2,
+        &[
+            (b"AKN", 2, 0),
+            (b"AKN", 1, 1),
+            (b"ANNT", 0, 0),
+            (b"ANNT", 0, 1),
+            (b"NAK", 0, 0),
+            (b"AKn", 0, 0),
+        ],
+    );
+    deposited(
+        out,
+        2,
+        &[(b"AKN", 2, 0, 3), (b"AKN", 1, 1, 4), (b"AKN", 1, 1, 2)],
+    );
 }
 
 // Feature rings, and what is no ring.
 pub fn features(out: &mut Out) {
-    judged(out, b"ACAGATT", 0, 4, 0);
-    judged(out, b"ACAGATT", 0, 4, 1);
-    judged(out, b"TT", 0, 0, 0);
-    judged(out, b"TT", 0, 1, 0);
-    judged(out, b"\x00\x7f\x80\xff", 0, 3, 0);
-    judged(out, b"\x80\x7f", 0, 0, 0);
-    judged(out, b"A", 0, 18446744073709551615, 0);
-    judged(out, b"", 0, 0, 0);
-    judged(out, b"", 1, 0, 0);
-    judged(out, b"A", 3, 0, 0);
+    judged(
+        out,
+        0,
+        &[
+            (b"ACAGATT", 4, 0),
+            (b"ACAGATT", 4, 1),
+            (b"TT", 0, 0),
+            (b"TT", 1, 0),
+            (b"\x00\x7f\x80\xff", 3, 0),
+            (b"\x80\x7f", 0, 0),
+            (b"A", usize::MAX, 0),
+            (b"", 0, 0),
+        ],
+    );
+    judged(out, 1, &[(b"", 0, 0)]);
+    judged(out, 3, &[(b"A", 0, 0)]);
 }
 
 // 8,192 letters A at the starts 0 and 1, and 8,193.
 pub fn long(out: &mut Out) {
-    let s = [b'A'; 8193];
-    text(out, b"CHECK_KEY of 8,192 A at 0 and at 1, of 8,193 A :");
-    marked(out, ring::check_key(&s[..8192], 1, 0, 0));
-    bar(out);
-    marked(out, ring::check_key(&s[..8192], 1, 1, 0));
-    bar(out);
-    marked(out, ring::check_key(&s, 1, 0, 0));
-    line(out);
+    out.text(b"CHECK_KEY of 8,192 A at 0 and at 1, of 8,193 A :");
+    out.answer(Marked::from(ring::check_key(&LONG[..MOST], 1, 0, 0)));
+    out.bar();
+    out.answer(Marked::from(ring::check_key(&LONG[..MOST], 1, 1, 0)));
+    out.bar();
+    out.answer(Marked::from(ring::check_key(&LONG, 1, 0, 0)));
+    out.line();
 }
 
 // Deposits of both kinds and strands, in rooms that are exact, long and short.
 pub fn deposits(out: &mut Out) {
-    deposited(out, b"AATCTGT", 1, 3, 1, 7);
-    deposited(out, b"AATCTGT", 1, 3, 1, 8);
-    deposited(out, b"AATCTGT", 1, 3, 1, 6);
-    deposited(out, b"AATCTGT", 1, 6, 0, 7);
-    deposited(out, b"AATCTGT", 1, 6, 0, 8);
-    deposited(out, b"AATCTGT", 1, 6, 0, 6);
-    deposited(out, b"ACAGATT", 0, 4, 0, 7);
-    deposited(out, b"ACAGATT", 0, 4, 0, 8);
-    deposited(out, b"ACAGATT", 0, 4, 0, 6);
+    deposited(
+        out,
+        1,
+        &[
+            (b"AATCTGT", 3, 1, 7),
+            (b"AATCTGT", 3, 1, 8),
+            (b"AATCTGT", 3, 1, 6),
+            (b"AATCTGT", 6, 0, 7),
+            (b"AATCTGT", 6, 0, 8),
+            (b"AATCTGT", 6, 0, 6),
+        ],
+    );
+    deposited(
+        out,
+        0,
+        &[
+            (b"ACAGATT", 4, 0, 7),
+            (b"ACAGATT", 4, 0, 8),
+            (b"ACAGATT", 4, 0, 6),
+        ],
+    );
     few_letters(out);
 }
 
 // Every start of ACAC below its repeat, on both strands, and rings of one letter and of bytes.
 fn few_letters(out: &mut Out) {
-    deposited(out, b"ACAC", 1, 0, 0, 4);
-    deposited(out, b"ACAC", 1, 1, 0, 4);
-    deposited(out, b"ACAC", 1, 0, 1, 4);
-    deposited(out, b"ACAC", 1, 1, 1, 4);
-    deposited(out, b"A", 1, 0, 0, 1);
-    deposited(out, b"A", 1, 0, 1, 1);
-    deposited(out, b"A", 1, 0, 1, 0);
-    deposited(out, b"\x00\x7f\x80\xff", 0, 3, 0, 5);
+    deposited(
+        out,
+        1,
+        &[
+            (b"ACAC", 0, 0, 4),
+            (b"ACAC", 1, 0, 4),
+            (b"ACAC", 0, 1, 4),
+            (b"ACAC", 1, 1, 4),
+            (b"A", 0, 0, 1),
+            (b"A", 0, 1, 1),
+            (b"A", 0, 1, 0),
+        ],
+    );
+    deposited(out, 0, &[(b"\x00\x7f\x80\xff", 3, 0, 5)]);
 }
 
 // Refusals in their order: 7 before 4, 3 before 7 and 4, 1 and 6 before all.
 pub fn refusals(out: &mut Out) {
-    deposited(out, b"AATCTGT", 1, 7, 0, 7);
-    deposited(out, b"AATCTGT", 1, 7, 0, 6);
-    deposited(out, b"AATCTGT", 1, 3, 2, 7);
-    deposited(out, b"ACAC", 1, 2, 0, 0);
-    deposited(out, b"ACGT", 1, 0, 1, 4);
-    deposited(out, b"ACAGATT", 0, 4, 1, 7);
-    deposited(out, b"A", 0, 18446744073709551615, 0, 1);
-    deposited(out, b"AAN", 1, 0, 0, 3);
-    deposited(out, b"AAN", 1, 9, 2, 2);
-    first_refusals(out);
-}
-
-// No letters, and a kind that is none.
-fn first_refusals(out: &mut Out) {
-    deposited(out, b"", 1, 0, 0, 0);
-    deposited(out, b"", 0, 5, 2, 3);
-    deposited(out, b"ACG", 3, 0, 0, 3);
-    deposited(out, b"AAN", 3, 9, 2, 0);
-    deposited(out, b"", 255, 0, 0, 0);
+    deposited(
+        out,
+        1,
+        &[
+            (b"AATCTGT", 7, 0, 7),
+            (b"AATCTGT", 7, 0, 6),
+            (b"AATCTGT", 3, 2, 7),
+            (b"ACAC", 2, 0, 0),
+            (b"ACGT", 0, 1, 4),
+        ],
+    );
+    deposited(out, 0, &[(b"ACAGATT", 4, 1, 7), (b"A", usize::MAX, 0, 1)]);
+    deposited(
+        out,
+        1,
+        &[(b"AAN", 0, 0, 3), (b"AAN", 9, 2, 2), (b"", 0, 0, 0)],
+    );
+    deposited(out, 0, &[(b"", 5, 2, 3)]);
+    deposited(out, 3, &[(b"ACG", 0, 0, 3), (b"AAN", 9, 2, 0)]);
+    deposited(out, 255, &[(b"", 0, 0, 0)]);
 }

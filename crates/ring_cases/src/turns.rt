@@ -1,6 +1,7 @@
 // A ring turned by one letter, and its opposite strand.
 
-// The letter that faces a letter; S, W, N and a byte that is no letter face themselves.
+// The letter that faces a letter; S, W, N and a byte that is no letter face themselves. A plain table of its own, beside which the
+// library's is seen.
 fn facing(b: u8) -> u8 {
     match b {
         b'A' => b'T',
@@ -19,28 +20,17 @@ fn facing(b: u8) -> u8 {
     }
 }
 
-// Writes the letters from 1 round to 0.
-pub fn turn(ring: &[u8], room: &mut [u8]) {
-    let n = ring.len();
-    if n == 0 {
-        return;
+// The letters from 1 round to 0.
+pub fn turn(ring: &mut [u8]) {
+    if !ring.is_empty() {
+        ring.rotate_left(1);
     }
-    if room.len() < n {
-        return;
-    }
-    for i in 1..n {
-        room[i - 1] = ring[i];
-    }
-    room[n - 1] = ring[0];
 }
 
-// Writes the letters in backward order, each exchanged for the one that faces it.
-pub fn opposite(ring: &[u8], room: &mut [u8]) {
-    let n = ring.len();
-    if room.len() < n {
-        return;
-    }
-    for i in 0..n {
-        room[i] = facing(ring[n - 1 - i]);
+// The letters in backward order, each exchanged for the one that faces it.
+pub fn opposite(ring: &mut [u8]) {
+    ring.reverse();
+    for b in ring {
+        *b = facing(*b);
     }
 }

@@ -12,8 +12,8 @@ use lib.Seq.{take_at, drop_at}
 use Rattle.words.specs.Keys.Strand.{strand, key_start}
 use Rattle.words.proofs.Order.Search.{by_test, either, lt_or_ge}
 use Rattle.ring.specs.Answers.{done_with}
-use Rattle.sheet.specs.declared.answer.Found.{Found}
-use Rattle.sheet.specs.declared.answer.Found.TheVariants.{Sheet, Refused}
+use Rattle.sheet.specs.Found.{Found}
+use Rattle.sheet.specs.Found.{Sheet, Refused}
 use Rattle.sheet.specs.Sheet.{trailer_size, Written, sheet_of}
 use Rattle.sheet.specs.Trailer.{Bytes, found_of, number_of}
 use Rattle.sheet.specs.Book.{joined, Walk, through, stopped, step_as, walk_back, walk_of, walked_as, walked_of}

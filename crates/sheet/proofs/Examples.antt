@@ -9,7 +9,7 @@ use Rattle.words.specs.Rings.Ring.{reading, start, lowest}
 use Rattle.words.specs.Keys.Strand.{opposite, strand, key_start, key}
 use Rattle.ring.specs.Judging.{verdict}
 use Rattle.ring.specs.Answers.{done_with, deposit, is_key}
-use Rattle.sheet.specs.declared.answer.Found.TheVariants.{Sheet, Refused}
+use Rattle.sheet.specs.Found.{Sheet, Refused}
 use Rattle.sheet.specs.Sheet.{sheet_of, deposit_of}
 use Rattle.sheet.specs.Trailer.{contents_in, wrong_marks, found_of}
 use Rattle.sheet.specs.Book.{walk_of, walked_of, through}

@@ -3,24 +3,35 @@
 use mathlib.Core.Path.{◌≡◌, refl, sym, ap, ap₂, ◌∙◌}
 use mathlib.Core.Bool.{Bool, true, false, not}
 use mathlib.Core.List.{List, [], ◌∷◌, ◌++◌}
-use Prim.Native.Nat.{ℕ, ◌≤◌, ◌+◌, ◌-◌}
+use Prim.Native.Nat.{ℕ}
 use native.Mathlib.Omega.{arith}
-use borrow.Author.Tests.{ne_eqb, le-ltb}
+use borrow.Author.Tests.{ne_eqb, le-ltb, eqb-false}
 use lib.Dec.{ltb}
 use lib.ListN.{length, take, drop}
-use Rattle.ring.specs.declared.judge.Verdict.{Verdict}
-use Rattle.ring.specs.declared.judge.Verdict.TheVariants.{Taken, Letter, Short, NotKey}
+use Rattle.std.proofs.Common.{Ok, Err}
+use Rattle.words.specs.Keys.Kind.{known}
+use Rattle.ring.specs.Verdict.{Verdict}
+use Rattle.ring.specs.Verdict.{Taken, Letter, Short, NotKey}
 use Rattle.ring.specs.declared.answer.Marked.{Marked}
 use Rattle.ring.specs.declared.answer.Checked.{Checked}
-use Rattle.ring.specs.Rule.{rule, judged}
+use Rattle.ring.specs.declared.kind.Kind.{Kind}
+use Rattle.ring.specs.declared.outcome.Marks.{Marks}
+use Rattle.ring.specs.declared.refusals.Refusal as ringed-by
+use Rattle.ring.specs.Numbered.{kind_number, kind_numbered}
+use Rattle.ring.specs.Told.{told_marks}
+use Rattle.ring.specs.Rule.{Rule, rule, judged}
+use Rattle.ring.proofs.ToldLaws.{refused}
+use Rattle.sheet.specs.declared.refusals.Refusal.{Refusal}
+use Rattle.sheet.specs.Told.{number_told, place_told, of_ring, told_refusal}
+use Rattle.sheet.proofs.ToldLaws.{refused_number, of_ring_told, kind_given, kind_refused}
 use Rattle.ring.specs.Judging.{most, after}
 use Rattle.ring.specs.Judging as ringed
 use Rattle.ring.specs.Answers.{fewer, as_key, key_marks_of, deposited_of, deposit_room, marked_by, done_with}
-use Rattle.sheet.specs.declared.answer.Found.{Found}
-use Rattle.sheet.specs.declared.answer.Found.TheVariants.{Sheet, Refused}
-use Rattle.sheet.specs.declared.answer.Points.{Points}
+use Rattle.sheet.specs.Found.{Found}
+use Rattle.sheet.specs.Found.{Sheet, Refused}
+use Rattle.sheet.specs.declared.trailer.Points.{Points}
 use Rattle.sheet.specs.Sheet.{is_made, deposit_of}
-use Rattle.sheet.specs.Trailer.{trailer, way_back, before, contents_in, bad_in, letter_rules, sheet_rules, sheet_in, found_of, form_of, points_in, number_of, place_of}
+use Rattle.sheet.specs.Trailer.{trailer, way_back, before, contents_in, bad_in, form_rules, letter_rules, sheet_rules, sheet_in, found_of, form_of, points_in, number_of, place_of}
 use Rattle.sheet.specs.Reader.{restored_of, original_of, room_as, original_room}
 use Rattle.sheet.proofs.Replies.{Pointed, test_right, right_kind, form_pointed, form_refused, length-letters, from_three}
 
@@ -119,73 +130,100 @@ module _ (b : List ℕ) (p : Pointed b) (short : Bool) where
       ap (λ v. after v new old) verdict_is ∙ same_room marks (contents_in b).kind (before b) (bad_in b) bad (is_made (contents_in b)) short new old
       ∙ ap (λ f. room_as f new old) found_is
 
--- ---- what the calls answer, on what the trailer points to
+-- ---- what the calls answer, on what the trailer points to: w, the letters as the code lends them
 
--- the letters as the code lends them
-abbrev letters_at : List ℕ → Points → List ℕ
-letters_at b q = take (q.before + q.n - q.before) (drop q.before b)
+-- the trailer alone is refused
+form_is : (b : List ℕ) (e : Refusal) → told_refusal e ≡ record { number = form_of b; place = 0 } → (more : List (Rule Found))
+    → Refused (number_told e) (place_told e) ≡ judged (form_rules b ++ more) (sheet_in b)
+form_is b e f more = ap (λ (x : Checked). Refused x.number x.place) f ∙ form_refused b (λ z. refused_number e (ap (λ (x : Checked). x.number) f ∙ z)) more
 
-letters_are : (b : List ℕ) → letters_at b (points_in b) ≡ (contents_in b).letters
-letters_are b = let e : before b + way_back b - before b ≡ way_back b = omega arith in ap (λ n. take n (drop (before b) b)) e
+pub found_refused : (b : List ℕ) (e : Refusal) → told_refusal e ≡ record { number = form_of b; place = 0 } → Refused (number_told e) (place_told e) ≡ found_of b
+unfolding found_of
+found_refused b e f = form_is b e f (letter_rules b)
 
-module _ (b : List ℕ) (z : form_of b ≡ 0) (q : Points) (g : q ≡ points_in b) where
+module _ (b : List ℕ) (f : ◌≡◌ {A = Checked} (record { number = 0; place = 0 }) (record { number = form_of b; place = 0 })) (q : Points) (g : q ≡ points_in b)
+    (w : List ℕ) (l : w ≡ take q.n (drop q.before b)) where
   pointed : Pointed b
-  pointed = form_pointed b z
+  pointed = form_pointed b (sym (ap (λ (x : Checked). x.number) f))
 
-  pub points_fit : q.before + q.n ≤ length b
-  points_fit = rw g (omega (arith, pointed.reach, pointed.long))
+  kind_known : known q.kind ≡ true
+  kind_known = ap (λ (q : Points). known q.kind) g ∙ right_kind (trailer b) (test_right (trailer b) pointed.right)
 
   -- what depends on the letters and marks, read by the code or in the definition
   as_read : {A : Type 0} (f : ℕ → List ℕ → ℕ → ℕ → A)
-      → f q.kind (letters_at b q) q.start q.strand ≡ f (contents_in b).kind (contents_in b).letters (contents_in b).start (contents_in b).strand
-  as_read f =
-      ap (λ (q : Points). f q.kind (letters_at b q) q.start q.strand) g
-      ∙ ap (λ w. f (contents_in b).kind w (contents_in b).start (contents_in b).strand) (letters_are b)
+      → f q.kind w q.start q.strand ≡ f (contents_in b).kind (contents_in b).letters (contents_in b).start (contents_in b).strand
+  as_read f = ap (λ w. f q.kind w q.start q.strand) l ∙ ap (λ (q : Points). f q.kind (take q.n (drop q.before b)) q.start q.strand) g
 
-  module _ (m : Marked) (e : m ≡ key_marks_of q.kind (letters_at b q) q.start q.strand) where
+  module _ (m : Marked) (e : m ≡ key_marks_of q.kind w q.start q.strand) where
     marks_are : m ≡ key_marks_of (contents_in b).kind (contents_in b).letters (contents_in b).start (contents_in b).strand
     marks_are = e ∙ as_read key_marks_of
 
-    pub key_refused : (m.number ≡ 0 → ⊥) → Refused m.number m.place ≡ found_of b
+    marks_refused : (m.number ≡ 0 → ⊥) → Refused m.number m.place ≡ found_of b
     unfolding found_of
-    key_refused n =
+    marks_refused n =
         ap (λ (m : Marked). Refused m.number m.place) marks_are
         ∙ refused_same b pointed false (λ z. n (ap (λ (m : Marked). m.number) marks_are ∙ z))
 
-    pub key_found : m.number ≡ 0 → Sheet m q.kind q.before ≡ found_of b
+    marks_found : m.number ≡ 0 → Sheet m q.kind q.before ≡ found_of b
     unfolding found_of
-    key_found y =
+    marks_found y =
         let x = done_same b pointed false (sym (ap (λ (m : Marked). m.number) marks_are) ∙ y) in
         let d : m ≡ done_with (way_back b) (contents_in b).start (contents_in b).strand =
         marks_are ∙ ap (λ v. marked_by v (length (contents_in b).letters) (contents_in b).start (contents_in b).strand) x.0
         ∙ ap (λ n. done_with n (contents_in b).start (contents_in b).strand) (length-letters b pointed) in
         ap₂ (λ (m : Marked) (q : Points). Sheet m q.kind q.before) d g ∙ x.1
 
+  pub key_refused : (e : ringed-by.Refusal) → told_marks (Err e) ≡ key_marks_of q.kind w q.start q.strand
+      → Refused (number_told (of_ring e)) (place_told (of_ring e)) ≡ found_of b
+  key_refused e h =
+      ap (λ (x : Checked). Refused x.number x.place) (of_ring_told e) ∙ marks_refused (told_marks (Err e)) h (eqb-false _ 0 (refused e))
+
+  -- the kind is known, so it is no reason to refuse
+  pub kind_no_reason : {A : Type 0} (e : ringed-by.Refusal) → Err e ≡ kind_numbered q.kind → A
+  kind_no_reason e h = absurd (kind_refused q.kind kind_known e h)
+
+  pub key_found : (m : Marks) → told_marks (Ok m) ≡ key_marks_of q.kind w q.start q.strand → (k : Kind) → Ok k ≡ kind_numbered q.kind
+      → Sheet (told_marks (Ok m)) (kind_number k) q.before ≡ found_of b
+  key_found m h k e = ap (λ k. Sheet (told_marks (Ok m)) k q.before) (kind_given q.kind kind_known k e) ∙ marks_found (told_marks (Ok m)) h refl
+
 -- ---- the original
 
-pub original_refused : (b room : List ℕ) → (form_of b ≡ 0 → ⊥)
-    → (◌≡◌ {A = Checked} (record { number = form_of b; place = 0 }) (original_of b (length room))) × (room ≡ original_room b room)
+pub original_refused : (b room : List ℕ) (e : Refusal) → told_refusal e ≡ record { number = form_of b; place = 0 }
+    → (told_refusal e ≡ original_of b (length room)) × (room ≡ original_room b room)
 unfolding restored_of
-original_refused b room n =
-    let e : Refused (form_of b) 0 ≡ restored_of b (length room) = form_refused b n (letter_rules b ++ rule (ltb (length room) (way_back b)) (Refused 4 0) ∷ []) in
-    (ap (λ f. record { number = number_of f; place = place_of f }) e, ap (λ f. room_as f (deposit_of (contents_in b)) room) e)
+original_refused b room e f =
+    let g : Refused (number_told e) (place_told e) ≡ restored_of b (length room) =
+    form_is b e f (letter_rules b ++ rule (ltb (length room) (way_back b)) (Refused 4 0) ∷ []) in
+    (ap (λ f. record { number = number_of f; place = place_of f }) g, ap (λ f. room_as f (deposit_of (contents_in b)) room) g)
 
-module _ (b : List ℕ) (z : form_of b ≡ 0) (q : Points) (g : q ≡ points_in b) (room : List ℕ) where
+module _ (b : List ℕ) (f : ◌≡◌ {A = Checked} (record { number = 0; place = 0 }) (record { number = form_of b; place = 0 })) (q : Points) (g : q ≡ points_in b)
+    (w : List ℕ) (l : w ≡ take q.n (drop q.before b)) (room : List ℕ) where
+  abbrev at-end : Pointed b
+  at-end = pointed b f q g w l
+
   abbrev short : Bool
   short = fewer (length room) (contents_in b).letters
 
-  restored : found b (form_pointed b z) short ≡ restored_of b (length room)
+  restored : found b at-end short ≡ restored_of b (length room)
   unfolding restored_of
-  restored = ap (λ n. judged (sheet_rules b ++ rule (ltb (length room) n) (Refused 4 0) ∷ []) (sheet_in b)) (length-letters b (form_pointed b z))
+  restored = ap (λ n. judged (sheet_rules b ++ rule (ltb (length room) n) (Refused 4 0) ∷ []) (sheet_in b)) (length-letters b at-end)
 
-  pub original_done : (m : Marked) → m ≡ deposited_of q.kind (letters_at b q) q.start q.strand (length room)
+  deposited : (m : Marked) → m ≡ deposited_of q.kind w q.start q.strand (length room)
       → ◌≡◌ {A = Checked} (record { number = m.number; place = m.place }) (original_of b (length room))
-  original_done m e =
-      ap (λ (m : Marked). record { number = m.number; place = m.place }) (e ∙ as_read b z q g (λ k w i s. deposited_of k w i s (length room)))
-      ∙ ap₂ (λ n i. record { number = n; place = i }) (number_same b (form_pointed b z) short) (place_same b (form_pointed b z) short)
+  deposited m e =
+      ap (λ (m : Marked). record { number = m.number; place = m.place }) (e ∙ as_read b f q g w l (λ k w i s. deposited_of k w i s (length room)))
+      ∙ ap₂ (λ n i. record { number = n; place = i }) (number_same b at-end short) (place_same b at-end short)
       ∙ ap (λ f. record { number = number_of f; place = place_of f }) restored
 
-  pub original_room_lem : (left : List ℕ) → left ≡ deposit_room q.kind (letters_at b q) q.start q.strand room → left ≡ original_room b room
+  pub original_done : (m : Marks) → told_marks (Ok m) ≡ deposited_of q.kind w q.start q.strand (length room)
+      → ◌≡◌ {A = Checked} (record { number = 0; place = 0 }) (original_of b (length room))
+  original_done m e = deposited (told_marks (Ok m)) e
+
+  pub original_declined : (e : ringed-by.Refusal) → told_marks (Err e) ≡ deposited_of q.kind w q.start q.strand (length room)
+      → told_refusal (of_ring e) ≡ original_of b (length room)
+  original_declined e h = of_ring_told e ∙ deposited (told_marks (Err e)) h
+
+  pub original_room_lem : (left : List ℕ) → left ≡ deposit_room q.kind w q.start q.strand room → left ≡ original_room b room
   original_room_lem left e =
-      e ∙ as_read b z q g (λ k w i s. deposit_room k w i s room)
-      ∙ room_same b (form_pointed b z) short (deposit_of (contents_in b)) room ∙ ap (λ f. room_as f (deposit_of (contents_in b)) room) restored
+      e ∙ as_read b f q g w l (λ k w i s. deposit_room k w i s room)
+      ∙ room_same b at-end short (deposit_of (contents_in b)) room ∙ ap (λ f. room_as f (deposit_of (contents_in b)) room) restored

@@ -8,7 +8,8 @@ pub mod Widths
 pub mod Replies
 pub mod Numbers
 pub mod Judged
-pub mod Told
+pub mod ToldLaws
+pub mod FromFound
 pub mod Writing
 pub mod Rounds
 pub mod Accepted

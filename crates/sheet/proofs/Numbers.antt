@@ -15,8 +15,8 @@ use Rattle.ring.specs.Judging.{most}
 use Rattle.ring.proofs.Rules.{clear_more, done_clear, refused_more}
 use Rattle.ring.proofs.Exactly.{bad_here, good_before, good_all, good_at, bad_is}
 use Rattle.ring.proofs.Deposit.{passes_permitted, passes_key, passes_start, passes_strand, ring_passes}
-use Rattle.sheet.specs.declared.answer.Found.{Found}
-use Rattle.sheet.specs.declared.answer.Found.TheVariants.{Refused}
+use Rattle.sheet.specs.Found.{Found}
+use Rattle.sheet.specs.Found.{Refused}
 use Rattle.sheet.specs.Sheet.{Contents, trailer_size, contents_of, deposit_of, is_made}
 use Rattle.sheet.specs.Trailer.{trailer, way_back, contents_in, wrong_marks, bad_in, letter_rules, sheet_rules, sheet_in, found_of, number_of, place_of}
 use Rattle.sheet.specs.Reader.{restored_of}

@@ -3,24 +3,24 @@
 use mathlib.Core.Path.{◌≡◌, refl, sym, ap, ◌∙◌}
 use mathlib.Core.Logic.{◌⊎◌, inl, inr}
 use mathlib.Core.Bool.{Bool, true, false, not, ◌||◌, ◌&&◌, true≢false}
-use mathlib.Core.List.{List, ◌++◌}
-use Prim.Native.Nat.{ℕ, ◌≤◌, ◌<◌, ◌+◌, ◌-◌}
+use mathlib.Core.List.{List, [], ◌++◌}
+use Prim.Native.Nat.{ℕ, ◌≤◌, ◌<◌, ◌+◌, ◌-◌, ◌*◌}
 use native.Mathlib.Omega.{arith}
-use borrow.Author.Tests.{eq-eqb, ne_eqb, eqb-true, eqb-false, lt-ltb, le-ltb, ltb-true, ltb-false, not-true}
+use borrow.Author.Tests.{eq-eqb, ne_eqb, eqb-true, eqb-false, lt-ltb, le-ltb, ltb-true, ltb-false, le-leb, lt-leb, not-true}
 use lib.Dec.{ltb, leb, eqb}
-use lib.ListN.{length, take, drop, get_or, length-take, length-drop}
-use lib.Seq.{take_all, drop-drop, get_or-drop}
+use lib.ListN.{length, drop, get_or, length-take, length-drop}
+use lib.Seq.{get_or-drop}
 use Rattle.words.specs.Keys.Kind.{known, stranded, strands}
 use Rattle.words.proofs.Keys.Kind.{no_strand, only_feature}
 use Rattle.words.proofs.Order.Search.{by_test, either}
+use Rattle.ring.specs.declared.answer.Checked.{Checked}
 use Rattle.ring.specs.Rule.{Rule, judged}
 use Rattle.ring.specs.Judging.{most}
 use Rattle.ring.proofs.Rules.{done_clear, refused_more}
-use Rattle.sheet.specs.declared.answer.Found.{Found}
-use Rattle.sheet.specs.declared.answer.Found.TheVariants.{Sheet, Refused}
-use Rattle.sheet.specs.declared.answer.Points.{Points}
-use Rattle.sheet.specs.Sheet.{number_in, width, tag_first, tag_last, trailer_size, is_made}
-use Rattle.sheet.specs.Trailer.{trailer, start_at, strand_at, kind_at, tag_at, way_back, before, contents_in, wrong_marks, bad_in, sheet_in, form_rules, letter_rules, found_of, form_of, points_in, number_of, place_of}
+use Rattle.sheet.specs.Found.{Found}
+use Rattle.sheet.specs.Found.{Sheet, Refused}
+use Rattle.sheet.specs.Sheet.{base, number_in, width, tag_first, tag_last, trailer_size, is_made}
+use Rattle.sheet.specs.Trailer.{trailer, strand_at, kind_at, tag_at, way_back, before, contents_in, wrong_marks, bad_in, sheet_in, form_rules, letter_rules, found_of, form_of, number_of, place_of}
 use Rattle.sheet.specs.Demands.{Wrong, first_of_tag, last_of_tag, no_kind, strand_above, feature_strand}
 
 -- a refusal by its number and place
@@ -85,23 +85,21 @@ module _ (t : List ℕ) where
     pub right_kind : known (get_or t kind_at 0) ≡ true
     right_kind = by_test (known (get_or t kind_at 0)) (λ e. e) (λ e. absurd (n (no_kind e)))
 
-  -- behind a right tag: the strand is none of the n that the kind has
-  pub wrong_strand : get_or t tag_at 0 ≡ tag_first → get_or t (tag_at + 1) 0 ≡ tag_last → (n : ℕ) → n ≡ strands (get_or t kind_at 0)
-      → leb n (get_or t strand_at 0) ≡ wrong_marks t
-  unfolding wrong_marks
-  wrong_strand x y n e =
-      ap (λ i. leb i (get_or t strand_at 0)) e ∙ no_strand (get_or t kind_at 0) (get_or t strand_at 0)
-      ∙ rw (eq-eqb (get_or t tag_at 0) tag_first x, eq-eqb (get_or t (tag_at + 1) 0) tag_last y)
+  -- behind a right tag: the strand is none of those that the kind has, or one of them
+  module _ (x : get_or t tag_at 0 ≡ tag_first) (y : get_or t (tag_at + 1) 0 ≡ tag_last) where
+    strand_test : leb (strands (get_or t kind_at 0)) (get_or t strand_at 0) ≡ wrong_marks t
+    unfolding wrong_marks
+    strand_test =
+        no_strand (get_or t kind_at 0) (get_or t strand_at 0)
+        ∙ rw (eq-eqb (get_or t tag_at 0) tag_first x, eq-eqb (get_or t (tag_at + 1) 0) tag_last y)
+
+    pub strand_wrong : (n : ℕ) → n ≡ strands (get_or t kind_at 0) → n ≤ get_or t strand_at 0 → wrong_marks t ≡ true
+    strand_wrong n e h = sym strand_test ∙ le-leb _ _ (omega (arith, e))
+
+    strand_right : (n : ℕ) → n ≡ strands (get_or t kind_at 0) → get_or t strand_at 0 < n → wrong_marks t ≡ false
+    strand_right n e h = sym strand_test ∙ lt-leb _ _ (omega (arith, e))
 
 -- ---- the rules of the trailer alone
-
--- the rest of the bytes that the code lends is the trailer: what is answered of it
-pub wrong_is : (b : List ℕ) (r t : Bool) → r ≡ wrong_marks (take (length b - (length b - trailer_size)) (drop (length b - trailer_size) b)) → r ≡ t
-    → wrong_marks (trailer b) ≡ t
-wrong_is b r t e f =
-    let n : ℕ = length b - (length b - trailer_size) in
-    let a : take n (trailer b) ≡ trailer b = take_all n (trailer b) (rw length-drop (omega arith)) in
-    ap wrong_marks (sym a) ∙ sym e ∙ f
 
 -- whatever is judged behind them
 module _ (b : List ℕ) (more : List (Rule Found)) where
@@ -206,16 +204,51 @@ module _ (b : List ℕ) (p : Pointed b) where
     unfolding found_of
     says_made u = let a : sheet_in b ≡ judged (letter_rules b) (sheet_in b) = rw (t, u) in a ∙ from_three (letter_rules b)
 
--- ---- what the trailer points to, as the code reads it
+-- ---- the trailer alone, told in 01's numbers, by what the code reads: t, the trailer, and how many bytes stand before it
 
-pub points_are : (b : List ℕ) (n s : ℕ) → n ≡ number_in width (drop (length b - trailer_size) b)
-    → s ≡ number_in width (drop (length b - trailer_size + start_at) b)
-    → ◌≡◌ {A = Points} (record {
-      n = n;
-      start = s;
-      strand = get_or b (length b - trailer_size + strand_at) 0;
-      kind = get_or b (length b - trailer_size + kind_at) 0;
-      before = length b - trailer_size - n;
-    }) (points_in b)
-points_are b n s e f =
-    rw (e, f, ← drop-drop start_at (length b - trailer_size) b, ← get_or-drop (length b - trailer_size) b strand_at 0, ← get_or-drop (length b - trailer_size) b kind_at 0)
+module _ (b t : List ℕ) (size : ℕ) (e : t ≡ trailer b) (l : size + trailer_size ≡ length b) where
+  abbrev Form : ℕ → Type 0
+  Form k = ◌≡◌ {A = Checked} (record { number = k; place = 0 }) (record { number = form_of b; place = 0 })
+
+  form_by : (f : Found) → f ≡ judged (form_rules b) (sheet_in b) → Form (number_of f)
+  unfolding form_of
+  form_by f g = ap (λ f. record { number = number_of f; place = 0 }) g
+
+  long : trailer_size ≤ length b
+  long = omega (arith, l)
+
+  as_trailer : (r : Bool) → wrong_marks t ≡ r → wrong_marks (trailer b) ≡ r
+  as_trailer r w = ap wrong_marks (sym e) ∙ w
+
+  pub form_wrong : wrong_marks t ≡ true → Form 6
+  form_wrong w = form_by _ (says_wrong b [] long (as_trailer true w))
+
+  -- the marks are right: both bytes of the tag, and a strand below the k that the kind has
+  module _ (x : get_or t tag_at 0 ≡ tag_first) (y : get_or t (tag_at + 1) 0 ≡ tag_last) (k : ℕ) (d : k ≡ strands (get_or t kind_at 0))
+      (h : get_or t strand_at 0 < k) (n : ℕ) (g : n ≡ get_or t 0 0 + get_or t 1 0 * base) where
+    back_is : n ≡ way_back b
+    back_is =
+        let f : number_in width t ≡ way_back b = ap (number_in width) e in
+        let i : get_or (drop 1 t) 0 0 ≡ get_or t 1 0 = get_or-drop 1 t 0 0 in
+        omega (arith, f, i, g)
+
+    right : wrong_marks (trailer b) ≡ false
+    right = as_trailer false (strand_right t x y k d h)
+
+    pub form_none : n ≡ 0 → Form 1
+    form_none z = form_by _ (says_none b [] long right n back_is z)
+
+    module _ (z : n ≡ 0 → ⊥) where
+      pub form_many : most < n → Form 2
+      form_many o = form_by _ (says_many b [] long right n back_is z o)
+
+      module _ (m : n ≤ most) where
+        pub form_far : size < n → Form 5
+        form_far o = form_by _ (says_reach b [] long right n back_is z m (omega (arith, l)))
+
+        pub form_done : n ≤ size → Form 0
+        form_done o = form_by _ (says_more b [] long right n back_is z m (omega (arith, l)))
+
+pub form_few : (b : List ℕ) → length b < trailer_size → ◌≡◌ {A = Checked} (record { number = 5; place = 0 }) (record { number = form_of b; place = 0 })
+unfolding form_of
+form_few b h = ap (λ f. record { number = number_of f; place = 0 }) (says_few b [] h)

@@ -12,16 +12,16 @@ use Rattle.words.specs.Keys.Kind.{known, is_letter, strands}
 use Rattle.words.specs.Keys.Strand.{strand, key_start, key}
 use Rattle.words.proofs.Keys.Kind.{no_strand}
 use Rattle.words.proofs.Keys.Molecule.{strand_below}
-use Rattle.ring.specs.declared.judge.Verdict.TheVariants.{Taken}
+use Rattle.ring.specs.Verdict.{Taken}
 use Rattle.ring.specs.declared.answer.Checked.{Checked}
 use Rattle.ring.specs.declared.answer.Marked.{Marked}
 use Rattle.ring.specs.Judging.{Permitted, over, after}
 use Rattle.ring.specs.Answers.{done_with, marked_as}
 use Rattle.ring.proofs.Exactly.{permitted_taken}
 use Rattle.ring.proofs.ComparedLemmas.{length-key}
-use Rattle.ring.proofs.Marks.{start_below}
+use Rattle.ring.proofs.MarkLaws.{start_below}
 use Rattle.ring.proofs.Deposit.{deposit_back, permitted_key}
-use Rattle.sheet.specs.declared.answer.Found.TheVariants.{Sheet}
+use Rattle.sheet.specs.Found.{Sheet}
 use Rattle.sheet.specs.declared.answer.Entry.{Entry}
 use Rattle.sheet.specs.Sheet.{Contents, base, number_in, width, tag_first, tag_last, tag, trailer_size, trailer_of, bytes_of, contents_of, sheet_of, deposit_of, write_verdict}
 use Rattle.sheet.specs.Trailer.{trailer, start_at, strand_at, kind_at, way_back, contents_in, wrong_as, wrong_marks, sheet_in, found_of, number_of}

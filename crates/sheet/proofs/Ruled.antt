@@ -10,15 +10,15 @@ use borrow.Author.Tests.{ltb-false, eqb-true, eqb-false}
 use lib.Dec.{ltb, eqb}
 use lib.ListN.{length}
 use Rattle.words.proofs.Order.Search.{by_test}
-use Rattle.ring.specs.declared.judge.Verdict.TheVariants.{Taken}
+use Rattle.ring.specs.Verdict.{Taken}
 use Rattle.ring.specs.Judging.{Given, taken}
 use Rattle.ring.specs.Demands.{AsRuled, lent}
 use Rattle.ring.proofs.Exactly.{taken_is, taken_permitted}
 use Rattle.ring.proofs.ComparedLemmas.{length-key}
 use Rattle.ring.proofs.Deposit.{deposit_back}
 use Rattle.ring.proofs.Numbers.{ruled, too_few, left_alone, written_beyond}
-use Rattle.sheet.specs.declared.answer.Found.{Found}
-use Rattle.sheet.specs.declared.answer.Found.TheVariants.{Sheet, Refused}
+use Rattle.sheet.specs.Found.{Found}
+use Rattle.sheet.specs.Found.{Sheet, Refused}
 use Rattle.sheet.specs.Sheet.{Contents, trailer_size, sheet_of, deposit_of, write_verdict, written_of, written_room}
 use Rattle.sheet.specs.Trailer.{way_back, contents_in, sheet_in, found_of}
 use Rattle.sheet.specs.Trailer as at-end

@@ -1,55 +1,32 @@
--- The call that writes a sheet: the trailer's stores, each answer of the call, and the bytes that it leaves.
+-- The call that writes a sheet: each answer of the call, and the bytes that it leaves.
 -- Assumes nothing.
 use mathlib.Core.Path.{◌≡◌, sym, ap, ◌∙◌}
 use mathlib.Core.Bool.{false}
-use mathlib.Core.List.{List, [], ◌∷◌, ◌++◌, append-nil, append_assoc}
-use Prim.Native.Nat.{ℕ, suc, ◌≤◌, ◌+◌, ◌-◌}
+use mathlib.Core.List.{List, ◌∷◌, ◌++◌, append_assoc}
+use Prim.Native.Nat.{ℕ, ◌≤◌, ◌+◌, ◌-◌}
 use native.Mathlib.Omega.{arith}
 use borrow.Author.Tests.{lt-ltb, le-ltb, ltb-false}
 use lib.Dec.{ltb}
-use lib.ListN.{length, take, drop, set, length-append, take-append-drop}
-use lib.Seq.{sets, append_snoc, drop-append-le, length-take-le}
+use lib.ListN.{length, take, drop, take-append-drop}
+use lib.Seq.{drop-append-le, length-take-le}
 use borrow.Rule.Slice.PartMut.{put_mid}
 use Rattle.words.specs.Keys.Kind.{known}
 use Rattle.words.specs.Keys.Strand.{strand, key_start, key}
 use Rattle.words.proofs.Order.Search.{by_test, either, lt_or_ge}
-use Rattle.ring.specs.declared.judge.Verdict.{Verdict}
-use Rattle.ring.specs.declared.judge.Verdict.TheVariants.{Taken}
+use Rattle.ring.specs.Verdict.{Verdict}
+use Rattle.ring.specs.Verdict.{Taken}
 use Rattle.ring.specs.declared.answer.Marked.{Marked}
 use Rattle.ring.specs.Judging.{Permitted, verdict, number_of, taken, over, after}
 use Rattle.ring.specs.Answers.{fewer, done_with, marked_as, lettered_of, lettered_room}
-use Rattle.ring.proofs.Laid.{Laid, laid_size, laid_one, laid_part, over_two}
+use Rattle.ring.proofs.Laid.{over_two}
 use Rattle.ring.proofs.Judging.{says_kind, says_empty}
 use Rattle.ring.proofs.Exactly.{number_taken, taken_permitted}
 use Rattle.ring.proofs.Numbers.{left_alone}
-use Rattle.ring.proofs.Marks.{room_done}
+use Rattle.ring.proofs.MarkLaws.{room_done}
 use Rattle.ring.proofs.Verdicts.{number_refused}
 use Rattle.ring.proofs.ComparedLemmas.{length-key}
-use Rattle.sheet.proofs.Widths.{length_in, length_two}
-use Rattle.sheet.specs.Trailer.{start_at, strand_at}
-use Rattle.sheet.specs.Sheet.{bytes_in, width, tag, trailer_size, trailer_of, sheet_of, write_verdict, written_of, written_room}
-
--- stores one behind another, behind what is laid already
-laid_sets : (new vs old room : List ℕ) (i : ℕ) → Laid new old room → i ≡ length new → i + length vs ≤ length old → sets room i vs ≡ over (new ++ vs) old
-laid_sets new [] old room i l e h = l.is ∙ ap (λ x. over x old) (sym (append-nil new))
-laid_sets new (v ∷ vs) old room i l e h =
-    laid_sets (new ++ (v ∷ [])) vs old (set room i v) (suc i) (laid_one new old room l i v e (omega arith)) (simp length-append (omega arith)) (omega arith)
-    ∙ ap (λ x. over x old) (append_snoc new v vs)
-
--- a trailer in a room: its two numbers, and the marks behind them
-pub trailer_laid : (n start strand kind : ℕ) (old one two : List ℕ) → trailer_size ≤ length old → one ≡ over (bytes_in width n) old
-    → two ≡ over (bytes_in width start) (take (length one - start_at) (drop start_at one))
-    → sets (put_mid start_at (length one - start_at) one two) strand_at (strand ∷ kind ∷ tag) ≡ over (trailer_of n start strand kind) old
-trailer_laid n start strand kind old one two h a b =
-    let N : List ℕ = bytes_in width n in
-    let S : List ℕ = bytes_in width start in
-    let l : Laid N old one = record { is = a; fits = omega (arith, length_in width n) } in
-    let s : length one ≡ length old = laid_size N old one l in
-    laid_sets (N ++ S) (strand ∷ kind ∷ tag) old _ strand_at
-    (laid_part N S old one two start_at l (length_in width n) (omega arith) (omega (arith, length_in width start)) b)
-    (omega (arith, length-append N S, length_in width n, length_in width start)) h
-
--- ---- the call
+use Rattle.sheet.proofs.Widths.{length_two}
+use Rattle.sheet.specs.Sheet.{width, tag, trailer_size, trailer_of, sheet_of, write_verdict, written_of, written_room}
 
 -- where a trailer has its space, room for the letters is room for both; no letters are refused before that
 space-verdict : (kind : ℕ) (w : List ℕ) (size : ℕ) → verdict kind w (ltb (size - trailer_size) (length w)) ≡ write_verdict kind w size

@@ -1,8 +1,8 @@
 -- A book of sheets, walked from its end (01, "The catalogue sheet").
 -- Assumes nothing.
 use Rattle.std.specs.Prelude.{cond, List, [], ◌∷◌, ◌++◌, ℕ, zero, suc, eqb, length, take, drop}
-use Rattle.sheet.specs.declared.answer.Found.{Found}
-use Rattle.sheet.specs.declared.answer.Found.TheVariants.{Sheet, Refused}
+use Rattle.sheet.specs.Found.{Found}
+use Rattle.sheet.specs.Found.{Sheet, Refused}
 use Rattle.sheet.specs.declared.answer.Walked.{Walked}
 use Rattle.sheet.specs.Trailer.{found_of}
 

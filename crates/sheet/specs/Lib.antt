@@ -1,8 +1,10 @@
 -- Sheets and books, as the public contracts speak of them
 pub mod Sheet
+pub mod Found
 pub mod Trailer
 pub mod Reader
 pub mod Book
+pub mod Told
 -- What the theorems of the demands speak of
 pub mod Calls
 pub mod Demands

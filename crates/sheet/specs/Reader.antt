@@ -5,8 +5,8 @@ use Rattle.ring.specs.declared.answer.Checked.{Checked}
 use Rattle.ring.specs.Rule.{rule, judged}
 use Rattle.ring.specs.Judging.{over}
 use Rattle.ring.specs.Answers.{refusal_of}
-use Rattle.sheet.specs.declared.answer.Found.{Found}
-use Rattle.sheet.specs.declared.answer.Found.TheVariants.{Sheet, Refused}
+use Rattle.sheet.specs.Found.{Found}
+use Rattle.sheet.specs.Found.{Sheet, Refused}
 use Rattle.sheet.specs.declared.answer.Entry.{Entry}
 use Rattle.sheet.specs.Sheet.{deposit_of}
 use Rattle.sheet.specs.Trailer.{way_back, contents_in, sheet_rules, sheet_in, found_of, number_of, place_of}

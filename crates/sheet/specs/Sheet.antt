@@ -2,7 +2,7 @@
 -- Assumes nothing.
 use Rattle.std.specs.Prelude.{◌≡◌, Bool, List, [], ◌∷◌, ◌++◌, ℕ, zero, suc, ◌+◌, ◌*◌, ◌/◌, ◌%◌, ltb, length, drop, get_or}
 use Rattle.words.specs.Keys.Strand.{strand, key_start, key}
-use Rattle.ring.specs.declared.judge.Verdict.{Verdict}
+use Rattle.ring.specs.Verdict.{Verdict}
 use Rattle.ring.specs.declared.answer.Marked.{Marked}
 use Rattle.ring.specs.Judging.{Permitted, verdict, after}
 use Rattle.ring.specs.Answers.{marked_as, deposit, is_key}

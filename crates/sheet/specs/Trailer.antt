@@ -5,9 +5,9 @@ use Rattle.words.specs.Keys.Kind.{known, stranded}
 use Rattle.ring.specs.Rule.{Rule, rule, judged}
 use Rattle.ring.specs.Judging.{most, first_bad}
 use Rattle.ring.specs.Answers.{done_with}
-use Rattle.sheet.specs.declared.answer.Found.{Found}
-use Rattle.sheet.specs.declared.answer.Found.TheVariants.{Sheet, Refused}
-use Rattle.sheet.specs.declared.answer.Points.{Points}
+use Rattle.sheet.specs.Found.{Found}
+use Rattle.sheet.specs.Found.{Sheet, Refused}
+use Rattle.sheet.specs.declared.trailer.Points.{Points}
 use Rattle.sheet.specs.Sheet.{Contents, base, number_in, width, tag_first, tag_last, trailer_size, is_made}
 
 -- what lent bytes hold: each is below 256

@@ -1,30 +1,9 @@
-// What the calls on sheets answer, 01's number and place first and for refused bytes every other field 0, and what they learn from a
-// trailer (`Found`, `Points`).
+// The answers in 01's numbers: the number and place first, and for refused bytes every other field 0. A host is told these (`probe`).
 use ring::Marked;
-
-// What stands at the end of lent bytes: a sheet, or the number of its refusal with its place.
-#[derive(Clone, Copy)]
-pub enum Found {
-    Sheet {
-        marked: Marked,
-        kind: u8,
-        before: usize,
-    },
-    Refused(u8, usize),
-}
-
-// What a trailer points to: n letters behind the bytes before, and the marks that it has for them.
-#[derive(Clone, Copy)]
-pub struct Points {
-    pub n: usize,
-    pub start: usize,
-    pub strand: u8,
-    pub kind: u8,
-    pub before: usize,
-}
+use std::fmt;
 
 // A sheet read: the key's marks, its kind, and how many bytes stand before it.
-#[derive(Clone, Copy)]
+#[derive(Clone, Copy, Debug, PartialEq, Eq)]
 pub struct Entry {
     pub marked: Marked,
     pub kind: u8,
@@ -32,9 +11,23 @@ pub struct Entry {
 }
 
 // A book walked.
-#[derive(Clone, Copy)]
+#[derive(Clone, Copy, Debug, PartialEq, Eq)]
 pub struct Walked {
     pub number: u8,
     pub place: usize,
     pub sheets: usize,
+}
+
+// Each is printed by its fields in their order.
+
+impl fmt::Display for Entry {
+    fn fmt<W: fmt::Write>(&self, f: &mut fmt::Formatter<W>) -> fmt::Result {
+        write!(f, "{} {} {}", self.marked, self.kind, self.before)
+    }
+}
+
+impl fmt::Display for Walked {
+    fn fmt<W: fmt::Write>(&self, f: &mut fmt::Formatter<W>) -> fmt::Result {
+        write!(f, "{} {} {}", self.number, self.place, self.sheets)
+    }
 }

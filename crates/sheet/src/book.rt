@@ -2,35 +2,27 @@
 ghost use Rattle.std.specs.Prelude.{◌≡◌};
 ghost use Rattle.sheet.specs.Trailer.{Bytes};
 ghost use Rattle.sheet.specs.Book.{walked_of};
+ghost use Rattle.sheet.specs.Told.{told_walk};
 
-use super::answer::{Found, Walked};
+use super::outcome::Sheet;
+use super::refusals::Refusal;
 use super::trailer;
 
-// The sheet nearest the end first; each step takes the trailer's answer apart, and leaves with its number on refusal.
-pub fn walk(book: &[u8]) -> Walked
-    ensures value { result ≡ walked_of book.now }
+// The sheet nearest the end first; each step takes the trailer's answer apart, and leaves with its number on refusal, the form that 01 names.
+pub fn walk(book: &[u8]) -> Result<usize, Refusal>
+    ensures value { told_walk result ≡ walked_of book.now }
     ensures lent { Bytes book.now }
 {
-    let mut rest = book.len();
+    let mut rest = book;
     let mut sheets = 0;
-    while 0 < rest {
-        match trailer::trailer(&book[..rest]) {
-            Found::Sheet { before, .. } => {
-                rest = before;
+    while !rest.is_empty() {
+        match trailer::trailer(rest) {
+            Ok(Sheet { before, .. }) => {
+                rest = &rest[..before];
                 sheets += 1;
             }
-            Found::Refused(number, place) => {
-                return Walked {
-                    number,
-                    place,
-                    sheets: 0,
-                };
-            }
+            Err(refusal) => return Err(refusal),
         }
     }
-    Walked {
-        number: 0,
-        place: 0,
-        sheets,
-    }
+    Ok(sheets)
 }

@@ -1,155 +1,117 @@
 // Sheets and books with one byte changed, and cut short at every place.
-use sheet::Walked;
-use shown::{Out, bar, labelled, letters, line, number, outcome, text};
+use ring::Checked;
+use sheet::{Entry, Walked};
+use shown::Out;
 
-// The walk over bytes with the byte at `at` set to `value`; the bytes are as before afterwards.
-fn damaged(bytes: &mut [u8], at: usize, value: u8) -> Walked {
+fn walked(bytes: &[u8]) -> Walked {
+    Walked::from(sheet::walk(bytes))
+}
+
+// The walk over bytes with the one at `at` changed; they are as before afterwards.
+fn damaged<F: FnOnce(u8) -> u8>(bytes: &mut [u8], at: usize, change: F) -> Walked
+    requires { F.IsAlwaysCallable change }
+{
     if bytes.len() <= at {
-        return sheet::walk(bytes);
+        return walked(bytes);
     }
     let old = bytes[at];
-    bytes[at] = value;
-    let w = sheet::walk(bytes);
+    bytes[at] = change(old);
+    let answer = walked(bytes);
     bytes[at] = old;
-    w
+    answer
 }
 
-// The byte at `at` one greater: number and place.
-fn raised(out: &mut Out, bytes: &mut [u8], at: usize) {
-    if bytes.len() <= at {
-        return;
-    }
-    let old = bytes[at];
-    let w = damaged(bytes, at, old.wrapping_add(1));
-    outcome(out, w.number, w.place);
-    bar(out);
-}
-
-// Every byte one greater in turn: number and place of the walk.
+// Every byte one greater in turn: number and place of the walk. The loop goes over places, as each step is lent all bytes.
 fn each(out: &mut Out, bytes: &mut [u8]) {
-    text(out, b"each byte one greater :");
-    let n = bytes.len();
-    for i in 0..n {
-        raised(out, bytes, i);
+    out.text(b"each byte one greater :");
+    for at in 0..bytes.len() {
+        let Walked { number, place, .. } = damaged(bytes, at, |b| b.wrapping_add(1));
+        out.answer(Checked { number, place });
+        out.bar();
     }
-    line(out);
+    out.line();
 }
 
-// A count of each number, 0 to 7.
-#[derive(Clone, Copy)]
-struct Counts {
-    of: [usize; 8],
-}
-
-// One more for a number.
-fn counted(c: Counts, number: u8) -> Counts {
-    let mut of = c.of;
-    let k = number as usize;
-    if k < 8 {
-        of[k] = of[k].wrapping_add(1);
-    }
-    Counts { of }
-}
-
-// How often each number comes for the 256 values of the byte at `at`.
-fn tally(bytes: &mut [u8], at: usize) -> Counts {
-    let mut c = Counts { of: [0; 8] };
+// How often each number, 0 to 7, comes for the 256 values of the byte at `at`.
+fn tally(bytes: &mut [u8], at: usize) -> [usize; 8] {
+    let mut counts = [0usize; 8];
     for v in 0..=255 {
-        c = counted(c, damaged(bytes, at, v).number);
+        let number = damaged(bytes, at, |_| v).number;
+        if let Some(count) = counts.get_mut(usize::from(number)) {
+            *count = count.wrapping_add(1);
+        }
     }
-    c
+    counts
 }
 
-fn listed(out: &mut Out, of: [usize; 8]) {
-    for n in of {
-        number(out, n);
+fn listed(out: &mut Out, counts: [usize; 8]) {
+    for count in counts {
+        out.number(count);
     }
+    out.line();
 }
 
-// For each byte: how many of its 256 values give 0, 1, .. 7.
+// For each byte: how many of its 256 values give 0, 1, .. 7. The loop goes over places, as each step is lent all bytes.
 fn tallies(out: &mut Out, bytes: &mut [u8]) {
-    let n = bytes.len();
-    for i in 0..n {
-        labelled(out, b"values of byte", i);
-        text(out, b" :");
-        let c = tally(bytes, i);
-        let of = c.of;
-        listed(out, of);
-        line(out);
+    for at in 0..bytes.len() {
+        out.labelled(b"values of byte", at);
+        out.text(b" :");
+        listed(out, tally(bytes, at));
     }
 }
 
 // Bytes read as a sheet and walked as a book: number and place, and the sheets walked.
 fn both(out: &mut Out, bytes: &[u8]) {
-    let e = sheet::read(bytes);
-    let m = e.marked;
-    outcome(out, m.number, m.place);
-    text(out, b",");
-    shown::walked(out, sheet::walk(bytes));
-    bar(out);
+    let marked = Entry::from(sheet::read(bytes)).marked;
+    out.answer(Checked {
+        number: marked.number,
+        place: marked.place,
+    });
+    out.labelled(b",", walked(bytes));
+    out.bar();
 }
 
-// What is left without the first `at` bytes, or those bytes alone.
-fn part(out: &mut Out, bytes: &[u8], at: usize, first: bool) {
-    if bytes.len() < at {
-        return;
+// What is left without the first 0, 1, .. bytes; `fronts` cuts at the other end.
+fn backs(out: &mut Out, bytes: &[u8]) {
+    out.text(b"without its first bytes :");
+    for at in 0..bytes.len() {
+        both(out, &bytes[at..]);
     }
-    if first {
-        both(out, &bytes[0..at]);
-        return;
-    }
-    both(out, &bytes[at..]);
+    out.line();
 }
 
-// The parts at the places 0, 1, .. of the bytes.
-fn parts(out: &mut Out, bytes: &[u8], first: bool) {
-    let n = bytes.len();
-    for i in 0..n {
-        part(out, bytes, i, first);
+// The first 0, 1, .. bytes alone.
+fn fronts(out: &mut Out, bytes: &[u8]) {
+    out.text(b"its first bytes :");
+    for at in 0..bytes.len() {
+        both(out, &bytes[..at]);
     }
-    line(out);
+    out.line();
 }
 
-// The first `size` bytes of a room damaged byte by byte, and cut at both ends.
-pub fn cut(out: &mut Out, room: &mut [u8], size: usize) {
-    if room.len() < size {
-        return;
-    }
-    each(out, &mut room[0..size]);
-    text(out, b"without its first bytes :");
-    parts(out, &room[0..size], false);
-    text(out, b"its first bytes :");
-    parts(out, &room[0..size], true);
+// Bytes damaged one by one, and cut at both ends.
+pub fn cut(out: &mut Out, bytes: &mut [u8]) {
+    each(out, bytes);
+    backs(out, bytes);
+    fronts(out, bytes);
 }
 
-// Every value of every one of the first `size` bytes of a room.
-fn valued(out: &mut Out, room: &mut [u8], size: usize) {
-    if room.len() < size {
-        return;
-    }
-    tallies(out, &mut room[0..size]);
-}
-
-// A sheet damaged and cut in every way.
+// A sheet damaged and cut in every way, and every value of each of its bytes.
 fn sheet_of(out: &mut Out, ring: &[u8], kind: u8) {
     let mut room = [0u8; 40];
-    let n = ring.len();
-    if 30 < n {
-        return;
+    out.text(b"DAMAGE to the sheet of");
+    out.letters(ring);
+    out.labelled(b" kind", kind);
+    out.line();
+    let _ = sheet::write(ring, kind, &mut room);
+    if let Some(bytes) = room.get_mut(..ring.len() + 8) {
+        cut(out, bytes);
+        tallies(out, bytes);
     }
-    let size = n + 8;
-    text(out, b"DAMAGE to the sheet of");
-    letters(out, ring);
-    labelled(out, b" kind", kind as usize);
-    line(out);
-    sheet::write(ring, kind, &mut room);
-    cut(out, &mut room, size);
-    valued(out, &mut room, size);
 }
 
 pub fn sheets(out: &mut Out) {
-    sheet_of(out, b"GATTACA", 1);
-    sheet_of(out, b"CACA", 1);
-    sheet_of(out, b"BAB", 0);
-    sheet_of(out, b"GAN", 2);
+    for (ring, kind) in [(&b"GATTACA"[..], 1), (b"CACA", 1), (b"BAB", 0), (b"GAN", 2)] {
+        sheet_of(out, ring, kind);
+    }
 }

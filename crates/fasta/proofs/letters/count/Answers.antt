@@ -1,16 +1,31 @@
--- What the loop of `fasta::letters::count` keeps as it begins, behind a base and behind a letter that is none, by `Counting`.
+-- What the loop of `fasta::letters::count` keeps as it begins and behind each byte, by `Counting`.
 -- Assumes nothing.
-use Rattle.std.proofs.Common.{arith, sym, ◌∙◌}
-use Rattle.fasta.proofs.Counting.{count_first, count_base, count_other}
+use Rattle.std.proofs.Common.{sym, ◌∙◌}
+use Rattle.std.proofs.lemmas.List.{take_rest}
+use Rattle.fasta.proofs.Bases.{found_some, found_none}
+use Rattle.fasta.proofs.Counting.{count_first, count_base, count_other, count_on, count_turn}
 use Rattle.fasta.proofs.letters.count.Goals as goal
+use Rattle.fasta.proofs.letters.count.Goals.{then-is_some, else-is_some+then-is_kept, else-is_some+else-is_kept+else-header_follows}
 
 pub loop-i-init : goal.loop-i-init
-loop-i-init c = count_first _ _ c.requires.1
+loop-i-init c = count_first _
 
-pub loop-i-preserved-then-look_up-gt0 : goal.loop-i-preserved-then-look_up-gt0
-loop-i-preserved-then-look_up-gt0 c =
-    count_base _ _ _ _ _ c.loop-i.invariant c.loop-i-test.true (omega (arith, c.look_up.ensures, c.if-look_up-gt0.true))
+pub returns-then-header_follows : goal.returns-then-header_follows
+returns-then-header_follows c =
+    let z = found_none _ _ c.look_up.ensures (sym c.is_some.ensures ∙ c.if-is_some.false) in
+    let q = rw take_rest at (sym c.is_kept.ensures ∙ c.if-is_kept.false) in
+    count_turn _ _ _ _ c.loop-i.invariant c.loop-i-test.true z q (rw take_rest at (sym c.header_follows.ensures ∙ c.if-header_follows.true))
 
-pub loop-i-preserved-then-is_kept : goal.loop-i-preserved-then-is_kept
-loop-i-preserved-then-is_kept c =
-    count_other _ _ _ _ _ c.loop-i.invariant c.loop-i-test.true (omega (arith, c.look_up.ensures, c.if-look_up-gt0.false)) (sym c.is_kept.ensures ∙ c.if-is_kept.true) _ c.first_other-other.ensures
+pub loop-i-preserved : goal.loop-i-preserved
+loop-i-preserved c =
+    elim c.if-is_some.branch [
+      | then-is_some w ↦ rw (w.n-is, w.other-is) (count_base _ _ _ _ c.loop-i.invariant c.loop-i-test.true (found_some _ _ c.look_up.ensures (sym c.is_some.ensures ∙ w.if-is_some.true)))
+      | else-is_some+then-is_kept w ↦
+          let z = found_none _ _ c.look_up.ensures (sym c.is_some.ensures ∙ w.if-is_some.false) in
+          let q = rw take_rest at (sym w.is_kept.ensures ∙ w.if-is_kept.true) in
+          rw w.n-is (count_other _ _ _ _ c.loop-i.invariant c.loop-i-test.true z q _ (w.other-is ∙ w.or-other.ensures))
+      | else-is_some+else-is_kept+else-header_follows w ↦
+          let z = found_none _ _ c.look_up.ensures (sym c.is_some.ensures ∙ w.if-is_some.false) in
+          let q = rw take_rest at (sym w.is_kept.ensures ∙ w.if-is_kept.false) in
+          rw (w.n-is, w.other-is) (count_on _ _ _ _ c.loop-i.invariant c.loop-i-test.true z q (rw take_rest at (sym w.header_follows.ensures ∙ w.if-header_follows.false)))
+    ]

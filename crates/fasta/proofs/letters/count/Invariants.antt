@@ -1,11 +1,7 @@
 -- The loop of `fasta::letters::count` keeps the letters passed: how many, and the first that is no base.
 -- Assumes nothing.
-use Rattle.std.proofs.Common.{◌-◌}
 use Rattle.fasta.proofs.Counting.{Counting}
 use Rattle.fasta.proofs.letters.count.Given as goal
 
 abbrev pub invariant-loop-i : goal.invariant-loop-i
-invariant-loop-i l = Counting l.text l.from l.i l.n l.other
-
-abbrev pub decreases-loop-i : goal.decreases-loop-i
-decreases-loop-i l = l.len - l.i
+invariant-loop-i l = Counting l.lines l.i l.n l.other

@@ -1,15 +1,14 @@
--- `fasta::parts::find` answers 8 where no header is found, else both parts, by `Replies`.
+-- `fasta::parts::find` where no header is found, and where both parts stand, by `Replies`.
 -- Assumes nothing.
-use Rattle.std.proofs.Common.{refl}
-use Rattle.fasta.proofs.Replies.{none_found, header_order, says_found}
+use Rattle.std.proofs.lemmas.List.{take_rest}
+use Rattle.fasta.proofs.Replies.{none_found, stands_behind, says_found}
 use Rattle.fasta.proofs.parts.find.Goals as goal
 
-pub returns-then-text-mark : goal.returns-then-text-mark
-returns-then-text-mark c = none_found _ _ c.find_header-mark.ensures c.if-text-mark.true _ refl
-
-pub overflow_sub-result : goal.overflow_sub-result
-overflow_sub-result c = header_order _ _ _ (record { found = c.find_header-mark.ensures; some = c.if-text-mark.false; end = c.line_end-stop.ensures })
+pub returns-in_err-head : goal.returns-in_err-head
+returns-in_err-head c = rw c.from_residual.ensures (none_found _ c.in_err-head.ensures)
 
 pub returns : goal.returns
 returns c =
-    says_found _ _ _ (record { found = c.find_header-mark.ensures; some = c.if-text-mark.false; end = c.line_end-stop.ensures }) _ c.next_header-offset.ensures _ refl
+    let g = c.in_ok-head.ensures in
+    let n = rw take_rest at c.next_header.ensures in
+    rw c.part.ensures (says_found _ _ _ g _ (stands_behind _ _ _ _ g.found.within n))

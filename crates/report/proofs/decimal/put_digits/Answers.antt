@@ -4,4 +4,4 @@ use Rattle.report.proofs.Digits.{backward_one}
 use Rattle.report.proofs.decimal.put_digits.Goals as goal
 
 pub loop-i-preserved : goal.loop-i-preserved
-loop-i-preserved c = backward_one _ _ _ _ _ _ c.loop-i.invariant _ (omega arith) c.requires
+loop-i-preserved c = backward_one _ _ _ _ _ c.loop-i.invariant _ (omega arith)

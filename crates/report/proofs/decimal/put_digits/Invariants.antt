@@ -1,9 +1,7 @@
--- The invariant: i of k digits are left, and `rest` holds them. The measure is i.
+-- The invariant: i of the digits are left, and `rest` holds them.
+use Rattle.std.proofs.Common.{length}
 use Rattle.report.proofs.Digits.{Backward}
 use Rattle.report.proofs.decimal.put_digits.Given as goal
 
 abbrev pub invariant-loop-i : goal.invariant-loop-i
-invariant-loop-i l = Backward l.initial.room l.room l.x l.k l.i l.rest
-
-abbrev pub decreases-loop-i : goal.decreases-loop-i
-decreases-loop-i l = l.i
+invariant-loop-i l = Backward l.room l.x (length l.initial.room) l.i l.rest

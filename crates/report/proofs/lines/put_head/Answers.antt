@@ -1,24 +1,32 @@
--- The five numbers are small, and they are those of the line.
-use Rattle.std.proofs.Common.{arith}
+-- No call declines, and the five numbers are small and are those of the line.
+use Rattle.std.proofs.Common.{◌≡◌, Ok, length, ap, arith}
 use Rattle.report.specs.Report.{head_line}
-use Rattle.report.proofs.Told.{told-fought, told_repeated, start_small, repeat_small, pairs_small}
+use Rattle.report.proofs.Told.{not_refused, duels_told, repeat_told, start_small, repeat_small, pairs_small}
 use Rattle.report.proofs.lines.put_head.Goals as goal
 
-pub overflow_cast-start : goal.overflow_cast-start
-overflow_cast-start c = omega (arith, (told-fought _ c.requires.0 _ c.duel-fought.ensures).0, start_small _ c.requires.0)
+pub returns-in_err-duels : goal.returns-in_err-duels
+returns-in_err-duels c = absurd (not_refused _ c.requires.0 _ (ap (λ a. a.number) c.in_err-duels.ensures))
 
-pub overflow_cast-repeat : goal.overflow_cast-repeat
-overflow_cast-repeat c = omega (arith, told_repeated _ c.requires.0 _ c.repeat-repeated.ensures, repeat_small _ c.requires.0)
+pub returns-in_err-repeat : goal.returns-in_err-repeat
+returns-in_err-repeat c = absurd (not_refused _ c.requires.0 _ (ap (λ a. a.number) c.in_err-repeat.ensures))
 
-pub overflow_cast-pairs : goal.overflow_cast-pairs
-overflow_cast-pairs c = omega (arith, (told-fought _ c.requires.0 _ c.duel-fought.ensures).1, pairs_small _ c.requires.0)
+pub overflow_cast-numbers-2 : goal.overflow_cast-numbers-2
+overflow_cast-numbers-2 c = let p = c.requires.0 in omega (arith, (duels_told _ p _ c.in_ok-duels.ensures).0, start_small _ p)
+
+pub overflow_cast-numbers-3 : goal.overflow_cast-numbers-3
+overflow_cast-numbers-3 c = let p = c.requires.0 in omega (arith, repeat_told _ p _ c.in_ok-repeat.ensures, repeat_small _ p)
+
+pub overflow_cast-numbers-4 : goal.overflow_cast-numbers-4
+overflow_cast-numbers-4 c = let p = c.requires.0 in omega (arith, (duels_told _ p _ c.in_ok-duels.ensures).1, pairs_small _ p)
 
 pub returns : goal.returns
 unfolding head_line
 returns c =
-    let f = told-fought c.args.ring.now c.requires.0 _ c.duel-fought.ensures in
-    let r = told_repeated c.args.ring.now c.requires.0 _ c.repeat-repeated.ensures in
+    let w = c.args.ring.now in
+    let d = duels_told w c.requires.0 _ c.in_ok-duels.ensures in
+    let r = repeat_told w c.requires.0 _ c.in_ok-repeat.ensures in
+    let v : c.put_row.result ≡ length (head_line w) = rw (← d.0, ← d.1, ← r) c.put_row.ensures.value.0 in
     record {
-      value = (rw (← f.0, ← f.1, ← r) c.put_row.ensures.value.0, omega arith);
-      room_after = rw (← f.0, ← f.1, ← r) c.put_row.ensures.room_after;
+      value = (ap Ok v, omega arith);
+      room_after = rw (← d.0, ← d.1, ← r) c.put_row.ensures.room_after;
     }

@@ -5,13 +5,13 @@ use Rattle.words.proofs.Duels.Duel.{Run}
 use Rattle.ring.proofs.duels.fight_all.Given as goal
 
 abbrev pub invariant-scan : goal.invariant-scan
-invariant-scan l = (l.k ≤ l.n) × Paired l.ring l.ring l.p l.q l.k
+invariant-scan l = (l.k ≤ l.n) × Paired l.side l.side l.at.p l.at.q l.k
 
 abbrev pub decreases-scan : goal.decreases-scan
 decreases-scan l = l.n - l.k
 
 abbrev pub invariant-duels : goal.invariant-duels
-invariant-duels l = Run l.ring l.p l.q l.read
+invariant-duels l = Run l.side l.at.p l.at.q l.read
 
 abbrev pub decreases-duels : goal.decreases-duels
-decreases-duels l = l.n + l.n - (l.p + l.q)
+decreases-duels l = l.n + l.n - (l.at.p + l.at.q)

@@ -1,16 +1,23 @@
 -- `ring::key_test::left_to` meets its contract.
-use Rattle.std.proofs.Common.{refl}
-use Rattle.ring.proofs.Marks.{found_within, left_other, left_own}
+use Rattle.std.proofs.Common.{refl, arith}
+use Rattle.ring.proofs.MarkLaws.{left_other, left_own}
 use Rattle.ring.proofs.key_test.left_to.Goals as goal
 
+pub start_of-b-requires : goal.start_of-b-requires
+start_of-b-requires c = omega arith
+
 pub lower-requires : goal.lower-requires
-lower-requires c = (c.facing_table-facing.ensures, c.requires, found_within 1 _ _ c.start_of-b.ensures c.requires, refl)
+lower-requires c = (c.start_of-b.ensures.inside, omega arith, omega arith)
 
-pub returns-then-strand-eq1 : goal.returns-then-strand-eq1
-returns-then-strand-eq1 c = left_other _ _ _ c.start_of-b.ensures _ c.if-strand-eq1.true c.lower.ensures
+pub lower-requires-in-Opposite : goal.lower-requires-in-Opposite
+lower-requires-in-Opposite c = (omega arith, c.start_of-b.ensures.inside, omega arith)
 
-pub lower-requires-2 : goal.lower-requires-2
-lower-requires-2 c = (c.facing_table-facing.ensures, found_within 1 _ _ c.start_of-b.ensures c.requires, c.requires, refl)
+pub returns-in-Given : goal.returns-in-Given
+returns-in-Given c =
+    rw c.in-Given.is (left_own _ _ 0 (rw c.opposite-other.ensures.value at c.start_of-b.ensures.value) _ (omega arith)
+    (rw (c.opposite-other.ensures.value, c.given-own.ensures.value) at c.lower.ensures))
 
-pub returns : goal.returns
-returns c = left_own _ _ _ c.start_of-b.ensures _ c.if-strand-eq1.false c.lower-2.ensures
+pub returns-in-Opposite : goal.returns-in-Opposite
+returns-in-Opposite c =
+    rw c.in-Opposite.is (left_other _ _ 1 (rw c.opposite-other.ensures.value at c.start_of-b.ensures.value) _ refl
+    (rw (c.opposite-other.ensures.value, c.given-own.ensures.value) at c.lower-in-Opposite.ensures))

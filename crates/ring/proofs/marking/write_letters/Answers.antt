@@ -2,20 +2,19 @@
 use Rattle.std.proofs.Common.{sym, ◌∙◌, arith}
 use Rattle.words.specs.Keys.Strand.{key}
 use Rattle.ring.proofs.Exactly.{taken_permitted}
-use Rattle.ring.proofs.Marks.{marked_start, marked_key, room_done}
+use Rattle.ring.proofs.MarkLaws.{marked_key, room_done}
 use borrow.Author.Tests.{ltb-false}
 use Rattle.ring.proofs.marking.write_letters.Goals as goal
 
-pub marks_of-m-requires : goal.marks_of-m-requires
-marks_of-m-requires c = (taken_permitted _ _ _ (sym c.judge-v.ensures ∙ c.in-Taken.is)).0.some
+pub marks_of-marks-requires : goal.marks_of-marks-requires
+marks_of-marks-requires c = (taken_permitted _ _ _ (sym c.in_ok-kind.ensures.value)).0.some
 
 pub put_reading-requires : goal.put_reading-requires
 put_reading-requires c =
-    let t = taken_permitted _ _ _ (sym c.judge-v.ensures ∙ c.in-Taken.is) in
-    (omega (arith, marked_start _ _ _ c.marks_of-m.ensures t.0.some), ltb-false _ _ t.1)
+    let t = ltb-false _ _ (taken_permitted _ _ _ (sym c.in_ok-kind.ensures.value)).1 in (omega arith, omega arith)
 
 pub returns-clause-room_after : goal.returns-clause-room_after
 returns-clause-room_after c =
     let r = c.args in
-    let e = sym c.judge-v.ensures ∙ c.in-Taken.is in
-    c.put_reading.ensures ∙ rw (marked_key r.kind r.ring.now _ c.marks_of-m.ensures) (room_done _ e (key r.kind r.ring.now) r.room.now)
+    let k = rw c.in_ok-kind.ensures.kind at c.marks_of-marks.ensures.value in
+    c.put_reading.ensures ∙ rw (c.new.ensures.value, marked_key r.kind r.ring.now _ k) (room_done _ (sym c.in_ok-kind.ensures.value) (key r.kind r.ring.now) r.room.now)

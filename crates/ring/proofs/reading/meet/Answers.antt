@@ -1,16 +1,12 @@
 -- `ring::reading::meet` meets its contract: the letters agree up to k.
-use Rattle.std.proofs.Common.{sym, ◌∙◌}
-use Rattle.ring.proofs.OnStrand.{met_all, met_differs}
+use Rattle.std.proofs.Common.{sym, ◌∙◌, arith}
 use Rattle.ring.proofs.reading.meet.Goals as goal
 
-pub returns-after-loop-k : goal.returns-after-loop-k
-returns-after-loop-k c =
-    let r = c.args in (met_all r.x r.y r.u.now r.v.now r.i r.j _ c.loop-k.invariant.0 c.loop-k-test.false c.loop-k.invariant.1, c.loop-k.invariant.0)
+pub returns-then-around : goal.returns-then-around
+returns-then-around c = (
+  record { within = omega arith; agree = c.loop-k.invariant; differs = λ n e. c.if-around.true (c.around.ensures ∙ e ∙ sym c.around-in-loop-k.ensures) },
+  omega arith,
+)
 
-pub returns-then-letter : goal.returns-then-letter
-returns-then-letter c =
-    let r = c.args in (
-      met_differs r.x r.y r.u.now r.v.now r.i r.j _ c.loop-k.invariant.0 c.loop-k.invariant.1
-          (λ e. c.if-letter.true (c.letter.ensures ∙ e ∙ sym c.letter-in-loop-k.ensures)),
-      c.loop-k.invariant.0,
-    )
+pub returns : goal.returns
+returns c = (record { within = omega arith; agree = λ j h. c.loop-k.invariant j (omega arith); differs = λ n. absurd (omega arith) }, omega arith)

@@ -14,30 +14,30 @@ run_fits w s h q p e r =
     (omega (arith, run_within _ _ _ r, length-drop s w), r.within, omega arith)
 
 pub returns-then-end-n : goal.returns-then-end-n
-returns-then-end-n c = sym (closed_whole _ c.requires.facing_value.1 _ _ (rw c.requires.facing_value.2 at c.requires.first_run) c.if-end-n.true)
+returns-then-end-n c = sym (closed_whole _ c.requires.in_ring.0 _ _ (rw c.requires.in_ring.1 at c.requires.run) (c.if-end-n.true ∙ c.len-n.ensures.value))
 
 pub overflow_sub-n : goal.overflow_sub-n
-overflow_sub-n c = omega (arith, run_fits _ _ c.requires.facing_value.1 c.requires.facing_value.2 _ _ c.requires.first_run)
+overflow_sub-n c = omega (arith, run_fits _ _ c.requires.in_ring.0 c.requires.in_ring.1 _ _ c.requires.run)
 
 pub overflow_add-start : goal.overflow_add-start
-overflow_add-start c = omega (arith, run_fits _ _ c.requires.facing_value.1 c.requires.facing_value.2 _ _ c.requires.first_run)
+overflow_add-start c = omega (arith, run_fits _ _ c.requires.in_ring.0 c.requires.in_ring.1 _ _ c.requires.run)
 
 pub same_letters-requires : goal.same_letters-requires
 same_letters-requires c =
-    let f = run_fits _ _ c.requires.facing_value.1 c.requires.facing_value.2 _ _ c.requires.first_run in
-    (c.requires.facing_value.0, f.0, omega arith, omega arith)
+    let f = run_fits _ _ c.requires.in_ring.0 c.requires.in_ring.1 _ _ c.requires.run in
+    (f.0, omega arith, omega arith)
 
 pub returns-then-same_letters : goal.returns-then-same_letters
 returns-then-same_letters c =
-    let f = run_fits _ _ c.requires.facing_value.1 c.requires.facing_value.2 _ _ c.requires.first_run in
-    let q : c.args.run.end + c.args.run.size ≡ length c.args.ring.now = omega arith in
-    sym (closed_once _ c.requires.facing_value.1 _ _ (rw c.requires.facing_value.2 at c.requires.first_run) q (rw c.requires.facing_value.2 at (c.same_letters.ensures.0 c.if-same_letters.true)))
+    let f = run_fits _ _ c.requires.in_ring.0 c.requires.in_ring.1 _ _ c.requires.run in
+    let q : c.args.found.run.end + c.args.found.run.size ≡ length c.args.ring.now = omega arith in
+    sym (closed_once _ c.requires.in_ring.0 _ _ (rw c.requires.in_ring.1 at c.requires.run) q (rw c.requires.in_ring.1 at (c.same_letters.ensures.0 c.if-same_letters.true)))
 
 pub returns-else-same_letters : goal.returns-else-same_letters
 returns-else-same_letters c =
-    sym (closed_none _ c.requires.facing_value.1 _ _ (rw c.requires.facing_value.2 at c.requires.first_run) c.if-end-n.false
-    (λ q a. true≢false (sym (c.same_letters.ensures.1 (rw c.requires.facing_value.2 a)) ∙ c.if-same_letters.false)))
+    c.len-n.ensures.value ∙ sym (closed_none _ c.requires.in_ring.0 _ _ (rw c.requires.in_ring.1 at c.requires.run) (λ q. c.if-end-n.false (q ∙ sym c.len-n.ensures.value))
+    (λ q a. true≢false (sym (c.same_letters.ensures.1 (rw c.requires.in_ring.1 a)) ∙ c.if-same_letters.false)))
 
 pub returns-else-n-end : goal.returns-else-n-end
 returns-else-n-end c =
-    sym (closed_none _ c.requires.facing_value.1 _ _ (rw c.requires.facing_value.2 at c.requires.first_run) c.if-end-n.false (λ q a. c.if-n-end.false (omega arith)))
+    c.len-n.ensures.value ∙ sym (closed_none _ c.requires.in_ring.0 _ _ (rw c.requires.in_ring.1 at c.requires.run) (λ q. c.if-end-n.false (q ∙ sym c.len-n.ensures.value)) (λ q a. c.if-n-end.false (omega arith)))

@@ -1,13 +1,12 @@
--- `ring::start::start_run` meets its contract: `best` is the lowest of the runs' heads before m, the first of them if several are equal;
--- `size` and `end` are those of the run there.
-use Rattle.std.proofs.Common.{◌≡◌, ℕ, ◌+◌, ◌≤◌, List, length, drop, refl, ◌∙◌, arith, rules, length-drop}
+-- `ring::start::start_run` meets its contract: `start` is the lowest of the runs' heads before m, the first of them if several are equal;
+-- `found` is the run there.
+use Rattle.std.proofs.Common.{◌≡◌, ℕ, ◌+◌, ◌≤◌, List, length, drop, refl, sym, ◌∙◌, arith, length-drop}
+use Rattle.words.specs.Rings.Ring.{reading}
 use Rattle.words.specs.Factors.Factor.{FirstRun}
-use Rattle.words.specs.Keys.Strand.{on_strand}
+use Rattle.words.proofs.Rings.Ring.{better_either}
 use Rattle.words.proofs.Factors.Factor.{run_within}
-use Rattle.words.proofs.Factors.Run.{best_none, best_next, best_last, best_below, none, best_run_new, best_run_old}
-use Rattle.words.proofs.Keys.Strand.{length-strand}
-use Rattle.ring.proofs.OnStrand.{length_back}
-use Rattle.ring.proofs.start.start_run.Goals.{then-best-m, else-best-m}
+use Rattle.words.proofs.Factors.Run.{best_none, best_next, best_last, best_below, some, best_run_new, best_run_old, best_run_last}
+use Rattle.ring.proofs.start.start_run.Goals.{then-start-m, else-start-m}
 use Rattle.ring.proofs.start.start_run.Goals as goal
 
 -- the first run of the letters from m on stays in the ring
@@ -15,42 +14,45 @@ run_fits : (w : List ℕ) (m n p e : ℕ) → length w ≡ n → m ≤ n → Fir
 run_fits w m n p e h l r = omega (arith, run_within _ _ _ r, length-drop m w)
 
 pub loop-m-init : goal.loop-m-init
-loop-m-init c = (refl, length-strand c.args.strand c.args.s.now, search rules, best_none _, none refl refl)
+loop-m-init c =
+    let e = better_either (λ k. k ≡ 0) (reading c.args.side.now) 0 0 refl refl in
+    let f = c.first_run-found.ensures in
+    let l = run_within _ _ _ f in
+    let b = best_next c.args.side.now 0 _ _ f 0 c.requires (best_none c.args.side.now) in
+    let z : 0 + c.first_run-found.result.end ≡ c.first_run-found.result.end = omega arith in
+    (c.len-n.ensures.value, omega arith, rw (z, e) at b, some f)
 
-pub first_run-f-requires : goal.first_run-f-requires
-first_run-f-requires c =
-    (c.requires.0, omega (arith, length_back c.args.strand c.args.s.now c.back_of.result.now c.loop-m.m c.back_of.ensures))
-
-pub lower_of-best-requires : goal.lower_of-best-requires
-lower_of-best-requires c =
-    let i = c.loop-m.invariant in
-    let n = i.1 in
-    (c.requires.0, c.loop-m-test.true, omega (arith, best_below _ _ _ (omega arith) i.3))
+pub lower_of-start-requires : goal.lower_of-start-requires
+lower_of-start-requires c =
+    let i = c.loop-m.invariant in (omega arith, best_below _ _ _ (omega arith) i.2)
 
 pub overflow_add-m : goal.overflow_add-m
 overflow_add-m c =
-    let i = c.loop-m.invariant in omega (arith, run_fits _ _ _ _ _ i.1 i.2 (rw c.back_of.ensures at c.first_run-f.ensures))
+    let i = c.loop-m.invariant in omega (arith, run_fits _ _ _ _ _ (sym i.0) i.1 (rw c.back.ensures at c.first_run-run.ensures))
 
 pub loop-m-preserved : goal.loop-m-preserved
 loop-m-preserved c =
     let i = c.loop-m.invariant in
-    let r = rw c.back_of.ensures at c.first_run-f.ensures in
-    let n = i.1 in
-    let b = best_next _ _ _ _ r _ (omega arith) i.3 in
-    let e = c.lower_of-best.ensures in (
-      refl,
-      i.1,
-      run_fits _ _ _ _ _ i.1 i.2 r,
+    let r = rw c.back.ensures at c.first_run-run.ensures in
+    let b = best_next _ _ _ _ r _ (omega arith) i.2 in
+    let e = c.lower_of-start.ensures in (
+      i.0,
+      run_fits _ _ _ _ _ (sym i.0) i.1 r,
       rw e b,
-      elim c.if-best-m.branch [
-        | then-best-m w ↦ rw (w.size-is, w.end-is) (best_run_new _ _ _ _ _ _ r w.if-best-m.true)
-        | else-best-m w ↦ rw (w.size-is, w.end-is, e) (best_run_old _ _ _ _ _ _ i.4 (λ q. w.if-best-m.false (e ∙ q)))
+      elim c.if-start-m.branch [
+        | then-start-m w ↦ rw w.found-is (best_run_new _ _ _ _ _ _ r w.if-start-m.true)
+        | else-start-m w ↦ rw (w.found-is, e) (best_run_old _ _ _ _ _ _ i.3 (λ q. w.if-start-m.false (e ∙ q)))
       ],
     )
 
-pub returns-clause-start_value : goal.returns-clause-start_value
-returns-clause-start_value c =
+pub returns-clause-value : goal.returns-clause-value
+returns-clause-value c =
     let i = c.loop-m.invariant in
-    let n = i.1 in
-    let e : c.loop-m.m ≡ length (on_strand c.args.strand c.args.s.now) = omega arith in
-    best_last _ _ (omega arith) (rw e at i.3)
+    let e : c.loop-m.m ≡ length c.args.side.now = omega arith in
+    best_last _ _ (omega arith) (rw e at i.2)
+
+pub returns-clause-inside : goal.returns-clause-inside
+returns-clause-inside c = best_below _ _ _ c.requires c.loop-m.invariant.2
+
+pub returns-clause-run : goal.returns-clause-run
+returns-clause-run c = best_run_last _ _ _ _ _ (omega arith) c.loop-m.invariant.3

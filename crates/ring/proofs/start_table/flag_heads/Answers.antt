@@ -7,23 +7,24 @@ use Rattle.words.proofs.Starts.StartTable.{flagging_none, flagging_next, flagged
 use Rattle.ring.specs.Judging.{most}
 use Rattle.ring.proofs.start_table.flag_heads.Goals as goal
 
-whole : (w : List ℕ) (m p e : ℕ) → FirstRun (take (length w - m) (drop m w)) p e → FirstRun (drop m w) p e
-whole w m p e r = rw (take_all (length w - m) (drop m w) (omega (arith, length-drop m w))) at r
+-- the letters lent to a run's scan are those from `m` on
+lent : (w s : List ℕ) (m p e : ℕ) → s ≡ take (length w - m) (drop m w) → FirstRun s p e → FirstRun (drop m w) p e
+lent w s m p e h r = rw (h, take_all (length w - m) (drop m w) (omega (arith, length-drop m w))) at r
 
 pub loop-m-init : goal.loop-m-init
 loop-m-init c = flagging_none most _ _
 
 pub overflow_add-m : goal.overflow_add-m
-overflow_add-m c =
-    omega (arith, run_within _ _ _ (whole c.args.w.now _ _ _ c.first_run-run.ensures), length-drop c.loop-m.m c.args.w.now)
+overflow_add-m c = let r = lent c.args.w.now _ _ _ _ c.given.ensures.value c.first_run-m.ensures in omega (arith, run_within _ _ _ r, length-drop c.loop-m.m c.args.w.now)
 
 pub loop-m-smaller : goal.loop-m-smaller
-loop-m-smaller c = omega (arith, run_some _ _ _ c.first_run-run.ensures)
+loop-m-smaller c = omega (arith, run_some _ _ _ c.first_run-m.ensures)
 
 pub loop-m-preserved : goal.loop-m-preserved
 loop-m-preserved c =
-    let r = c.requires in
-    flagging_next most _ _ _ _ r.2 r.0 (search rules) c.loop-m.invariant r.1 _ _ (whole c.args.w.now _ _ _ c.first_run-run.ensures)
+    let a = c.requires in
+    let r = lent c.args.w.now _ _ _ _ c.given.ensures.value c.first_run-m.ensures in
+    flagging_next most _ _ _ _ a.2 a.0 (search rules) c.loop-m.invariant a.1 _ _ r
 
 pub returns : goal.returns
 returns c =

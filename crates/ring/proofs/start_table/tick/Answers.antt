@@ -1,5 +1,5 @@
 -- `start_table::tick` meets its contract. The invariant: the entries so far are ticked.
-use Rattle.std.proofs.Common.{arith, length-set}
+use Rattle.std.proofs.Common.{arith, rules}
 use Rattle.words.proofs.Suffixes.Fill.{block_greater, block_equal}
 use Rattle.words.proofs.Starts.StartTick.{outside_none, outside_more, ticking_first, ticking_more, judged_new}
 use Rattle.ring.specs.Judging.{most}
@@ -8,8 +8,8 @@ use Rattle.ring.proofs.start_table.tick.Goals as goal
 
 pub loop-l-init : goal.loop-l-init
 loop-l-init c =
-    let m = c.requires.m_in_bounds in
-    (ticking_first most _ _ _ c.requires.head.0 m.0 (omega arith) c.requires.head.1, outside_none _ _ _, rw length-set m.2)
+    let m = c.requires.in_ring in
+    (ticking_first most _ _ _ c.requires.head.0 m.0 (omega arith) c.requires.head.1, outside_none _ _ _)
 
 pub tick_for-a-requires-clause-ticking : goal.tick_for-a-requires-clause-ticking
 tick_for-a-requires-clause-ticking c =
@@ -21,9 +21,8 @@ loop-l-preserved c =
     let g = i.0 in
     let h = c.loop-l-test.true in (
       elim c.if-w-l-2.branch [
-        | then-w-l-2 w ↦ let b = block_greater _ _ _ _ g.block h w.if-w-l-2.true in rw (w.p-is, w.a-is) (ticking_more most _ _ _ _ _ g h i.2 (omega arith) _ b _ (judged_new most _ _ _ _ _ g h b))
-        | else-w-l-2 w ↦ rw (w.p-is, w.a-is) (ticking_more most _ _ _ _ _ g h i.2 (omega arith) _ (block_equal _ _ _ _ g.block h (omega arith)) _ w.tick_for-a.ensures)
+        | then-w-l-2 w ↦ let b = block_greater _ _ _ _ g.block h w.if-w-l-2.true in rw (w.p-is, w.a-is) (ticking_more most _ _ _ _ _ g h (search rules) (omega arith) _ b _ (judged_new most _ _ _ _ _ g h b))
+        | else-w-l-2 w ↦ rw (w.p-is, w.a-is) (ticking_more most _ _ _ _ _ g h (search rules) (omega arith) _ (block_equal _ _ _ _ g.block h (omega arith)) _ w.tick_for-a.ensures)
       ],
       outside_more _ _ _ _ _ i.1 (omega arith),
-      rw length-set i.2,
     )

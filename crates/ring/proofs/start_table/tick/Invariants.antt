@@ -1,11 +1,7 @@
 -- `start_table::tick` meets its contract. The invariant: the entries so far are ticked.
-use Rattle.std.proofs.Common.{◌≤◌, ◌-◌, length}
 use Rattle.words.specs.Starts.Tick.{Outside, Ticking}
 use Rattle.ring.specs.Judging.{most}
 use Rattle.ring.proofs.start_table.tick.Given as goal
 
 abbrev pub invariant-loop-l : goal.invariant-loop-l
-invariant-loop-l l = Ticking most l.w l.t l.m l.p l.l × Outside l.initial.t l.t l.m l.l × (length l.w ≤ length l.t)
-
-abbrev pub decreases-loop-l : goal.decreases-loop-l
-decreases-loop-l l = length l.w - l.l
+invariant-loop-l l = Ticking most l.w l.t l.m l.p l.l × Outside l.initial.t l.t l.m l.l

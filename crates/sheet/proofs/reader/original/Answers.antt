@@ -1,26 +1,31 @@
 -- The trailer's own number, then what the ring rules say and write, by `Judged`.
-use Rattle.std.proofs.Common.{ap, sym, ◌∙◌}
-use Rattle.sheet.proofs.Judged.{points_fit, original_refused, original_done, original_room_lem}
+use Rattle.std.proofs.lemmas.Result.{err_from_is_err_and}
+use Rattle.sheet.proofs.Judged.{original_refused, original_declined, original_done, original_room_lem}
 use Rattle.sheet.proofs.reader.original.Goals as goal
 
-pub returns-then-refused-ne0-clause-value : goal.returns-then-refused-ne0-clause-value
-returns-then-refused-ne0-clause-value c =
-    let e = c.form-refused.ensures in
-    ap (λ n. record { number = n; place = 0 }) e ∙ (original_refused c.args.bytes.now c.args.room.now (λ z. c.if-refused-ne0.true (e ∙ z))).0
+pub returns-in_err-p-clause-value : goal.returns-in_err-p-clause-value
+returns-in_err-p-clause-value c = let e = err_from_is_err_and c.from_residual.result c.from_residual.ensures.1 in rw (e.1, e.2) (original_refused c.args.bytes.now c.args.room.now _ c.in_err-p.ensures.form).0
 
-pub returns-then-refused-ne0-clause-room_after : goal.returns-then-refused-ne0-clause-room_after
-returns-then-refused-ne0-clause-room_after c =
-    (original_refused c.args.bytes.now c.args.room.now (λ z. c.if-refused-ne0.true (c.form-refused.ensures ∙ z))).1
+pub returns-in_err-p-clause-room_after : goal.returns-in_err-p-clause-room_after
+returns-in_err-p-clause-room_after c = (original_refused c.args.bytes.now c.args.room.now _ c.in_err-p.ensures.form).1
 
-pub slice_bounds-write_deposit-end : goal.slice_bounds-write_deposit-end
-slice_bounds-write_deposit-end c = points_fit _ (sym c.form-refused.ensures ∙ c.if-refused-ne0.false) _ c.points-p.ensures
+pub returns-in_err-write_deposit-clause-value : goal.returns-in_err-write_deposit-clause-value
+returns-in_err-write_deposit-clause-value c =
+    let p = c.in_ok-p.ensures in
+    let e = err_from_is_err_and c.from_residual-in_err-write_deposit.result c.from_residual-in_err-write_deposit.ensures.1 in rw (e.1, e.2)
+    (original_declined c.args.bytes.now p.form _ p.points.0 _ c.letters.ensures c.args.room.now _ c.in_err-write_deposit.ensures.value)
+
+pub returns-in_err-write_deposit-clause-room_after : goal.returns-in_err-write_deposit-clause-room_after
+returns-in_err-write_deposit-clause-room_after c =
+    let p = c.in_ok-p.ensures in
+    original_room_lem c.args.bytes.now p.form _ p.points.0 _ c.letters.ensures c.args.room.now _ c.in_err-write_deposit.ensures.room_after
 
 pub returns-clause-value : goal.returns-clause-value
 returns-clause-value c =
-    original_done c.args.bytes.now (sym c.form-refused.ensures ∙ c.if-refused-ne0.false) c.points-p.result c.points-p.ensures c.args.room.now
-    c.write_deposit-m.result c.write_deposit-m.ensures.value
+    let p = c.in_ok-p.ensures in
+    original_done c.args.bytes.now p.form _ p.points.0 _ c.letters.ensures c.args.room.now _ c.in_ok-write_deposit.ensures.value
 
 pub returns-clause-room_after : goal.returns-clause-room_after
 returns-clause-room_after c =
-    original_room_lem c.args.bytes.now (sym c.form-refused.ensures ∙ c.if-refused-ne0.false) c.points-p.result c.points-p.ensures c.args.room.now
-    _ c.write_deposit-m.ensures.room_after
+    let p = c.in_ok-p.ensures in
+    original_room_lem c.args.bytes.now p.form _ p.points.0 _ c.letters.ensures c.args.room.now _ c.in_ok-write_deposit.ensures.room_after

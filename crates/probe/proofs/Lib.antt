@@ -1,2 +1,0 @@
--- The laws of what a host is told
-pub mod Telling

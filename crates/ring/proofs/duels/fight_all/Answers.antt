@@ -14,7 +14,7 @@ next_at c =
     let i = c.scan.invariant in
     let m : Met c.given-side.result c.given-side.result c.duels.at.p c.duels.at.q c.if-k-n.met =
     elim c.if-k-n.branch [
-      | then-k-n w ↦ absurd (c.if-met-n.false w.met-is)
+      | then-k-n w ↦ absurd (omega (arith, w.met-is, c.if-met-n.false))
       | else-k-n+then-around w ↦ rw w.met-is (record { within = omega arith; agree = i.1; differs = λ n e. w.if-around.true (w.around.ensures ∙ e ∙ sym w.around-in-scan.ensures) })
     ] in
     run_moved _ (omega arith) _ _ _ c.duels.invariant (omega arith) _ (omega (arith, m.within)) m _ _ _ _

@@ -10,7 +10,7 @@ pub lower-requires : goal.lower-requires
 lower-requires c = (c.start_of-b.ensures.inside, omega arith, omega arith)
 
 pub lower-requires-in-Opposite : goal.lower-requires-in-Opposite
-lower-requires-in-Opposite c = (omega arith, c.start_of-b.ensures.inside, omega arith)
+lower-requires-in-Opposite c = (omega arith, omega arith, omega arith)
 
 pub returns-in-Given : goal.returns-in-Given
 returns-in-Given c =

@@ -29,6 +29,11 @@ bad_more (b ∷ w) a =
     (by_test (is_letter base_kind a) (λ r. rw r (omega arith)) (λ r. rw r)))))
     (λ e. rw (e, lt-ltb 0 (suc (length w)) (omega arith)))
 
+-- a letter that is no base stands no further back than the first
+pub bad_by : (w s : List ℕ) (a : ℕ) → is_letter base_kind a ≡ false → first_bad base_kind (w ++ (a ∷ s)) ≤ length w
+bad_by [] s a e = rw e (omega arith)
+bad_by (b ∷ w) s a e = by_test (is_letter base_kind b) (λ q. rw q (omega (arith, bad_by w s a e))) (λ q. rw q (omega arith))
+
 pub length_more : (w : List ℕ) (a : ℕ) → length (w ++ (a ∷ [])) ≡ length w + 1
 length_more w a = length-append w (a ∷ [])
 

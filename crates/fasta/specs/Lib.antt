@@ -3,6 +3,8 @@ pub mod Lines
 pub mod Parts
 pub mod Answers
 pub mod Told
+-- What they cite of the text that an answer prints
+pub mod Printed
 -- What the theorems of the demands speak of
 pub mod Calls
 pub mod Demands

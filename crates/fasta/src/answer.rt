@@ -1,5 +1,6 @@
 // What the reader answers: a part of the text, a record that is read or refused, and both told in 01's numbers.
-ghost use Rattle.std.specs.Prelude.{◌≡◌};
+ghost use Rattle.std.specs.Prelude.{◌≡◌, Some};
+ghost use Rattle.fasta.specs.Printed.{found_text, part_text, record_text, refusal_text, refused_text};
 ghost use Rattle.fasta.specs.Told.{number_of_refusal, place_of_refusal, told_found, told_record};
 
 use std::error::Error;
@@ -14,6 +15,8 @@ pub struct Part {
 }
 
 impl fmt::Display for Part {
+    ghost output = { λ p. Some (part_text p) };
+
     fn fmt<W: fmt::Write>(&self, f: &mut fmt::Formatter<W>) -> fmt::Result {
         write!(f, "{} {}", self.offset, self.size)
     }
@@ -57,6 +60,8 @@ impl Refusal {
 
 // The number, and a text for people, of this crate's own cases.
 impl fmt::Display for Refusal {
+    ghost output = { λ r. Some (refusal_text r) };
+
     fn fmt<W: fmt::Write>(&self, f: &mut fmt::Formatter<W>) -> fmt::Result {
         write!(f, "{}: ", self.number())?;
         match self {
@@ -79,6 +84,8 @@ pub struct Refused {
 }
 
 impl fmt::Display for Refused {
+    ghost output = { λ e. Some (refused_text e) };
+
     fn fmt<W: fmt::Write>(&self, f: &mut fmt::Formatter<W>) -> fmt::Result {
         write!(f, "{}", self.refusal)
     }
@@ -138,6 +145,8 @@ impl From<Result<Taken, Refused>> for Record {
 }
 
 impl fmt::Display for Record {
+    ghost output = { λ r. Some (record_text r) };
+
     fn fmt<W: fmt::Write>(&self, f: &mut fmt::Formatter<W>) -> fmt::Result {
         write!(
             f,
@@ -178,6 +187,8 @@ impl From<Option<Parts>> for Found {
 }
 
 impl fmt::Display for Found {
+    ghost output = { λ f. Some (found_text f) };
+
     fn fmt<W: fmt::Write>(&self, f: &mut fmt::Formatter<W>) -> fmt::Result {
         write!(
             f,

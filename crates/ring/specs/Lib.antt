@@ -5,6 +5,7 @@ pub mod Judging
 pub mod Answers
 pub mod Numbered
 pub mod Told
+pub mod Printed
 -- What the theorems of the demands speak of
 pub mod Calls
 pub mod Demands

@@ -1,4 +1,7 @@
 // The answers in 01's numbers: the number and place first, and for a refused call every other field 0. A host is told these (`probe`).
+ghost use Rattle.std.specs.Prelude.{Some};
+ghost use Rattle.ring.specs.Printed.{checked_text, factored_text, fought_text, repeated_text, marked_text, compared_text};
+
 use std::fmt;
 
 // The number and the place alone: a ring judged, a table or a room filled.
@@ -56,12 +59,16 @@ pub struct Compared {
 // Each is printed by its fields in their order.
 
 impl fmt::Display for Checked {
+    ghost output = { λ a. Some (checked_text a) };
+
     fn fmt<W: fmt::Write>(&self, f: &mut fmt::Formatter<W>) -> fmt::Result {
         write!(f, "{} {}", self.number, self.place)
     }
 }
 
 impl fmt::Display for Factored {
+    ghost output = { λ a. Some (factored_text a) };
+
     fn fmt<W: fmt::Write>(&self, f: &mut fmt::Formatter<W>) -> fmt::Result {
         write!(
             f,
@@ -72,6 +79,8 @@ impl fmt::Display for Factored {
 }
 
 impl fmt::Display for Fought {
+    ghost output = { λ a. Some (fought_text a) };
+
     fn fmt<W: fmt::Write>(&self, f: &mut fmt::Formatter<W>) -> fmt::Result {
         write!(
             f,
@@ -82,12 +91,16 @@ impl fmt::Display for Fought {
 }
 
 impl fmt::Display for Repeated {
+    ghost output = { λ a. Some (repeated_text a) };
+
     fn fmt<W: fmt::Write>(&self, f: &mut fmt::Formatter<W>) -> fmt::Result {
         write!(f, "{} {} {}", self.number, self.place, self.repeat)
     }
 }
 
 impl fmt::Display for Marked {
+    ghost output = { λ a. Some (marked_text a) };
+
     fn fmt<W: fmt::Write>(&self, f: &mut fmt::Formatter<W>) -> fmt::Result {
         write!(
             f,
@@ -98,6 +111,8 @@ impl fmt::Display for Marked {
 }
 
 impl fmt::Display for Compared {
+    ghost output = { λ a. Some (compared_text a) };
+
     fn fmt<W: fmt::Write>(&self, f: &mut fmt::Formatter<W>) -> fmt::Result {
         let same = if self.same { "yes" } else { "no" };
         write!(f, "{} {} {} {same}", self.number, self.place, self.ring)

@@ -1,7 +1,8 @@
 // Why a call declines, and 01's number and place for each reason.
-ghost use Rattle.std.specs.Prelude.{◌≡◌};
+ghost use Rattle.std.specs.Prelude.{◌≡◌, Some};
 ghost use Rattle.ring.specs.Judging.{number_of, place_of};
 ghost use Rattle.ring.specs.Told.{verdict_of};
+ghost use Rattle.ring.specs.Printed.{refusal_text, not_compared_text};
 
 use std::error::Error;
 use std::fmt;
@@ -46,6 +47,8 @@ impl Refusal {
 
 // The number, and a text for people, of this crate's own cases.
 impl fmt::Display for Refusal {
+    ghost output = { λ e. Some (refusal_text e) };
+
     fn fmt<W: fmt::Write>(&self, f: &mut fmt::Formatter<W>) -> fmt::Result {
         write!(f, "{}: ", self.number())?;
         match self {
@@ -69,6 +72,8 @@ pub enum NotCompared {
 }
 
 impl fmt::Display for NotCompared {
+    ghost output = { λ e. Some (not_compared_text e) };
+
     fn fmt<W: fmt::Write>(&self, f: &mut fmt::Formatter<W>) -> fmt::Result {
         match self {
             NotCompared::First(refusal) => write!(f, "the first ring: {refusal}"),

@@ -5,6 +5,7 @@ pub mod Trailer
 pub mod Reader
 pub mod Book
 pub mod Told
+pub mod Printed
 -- What the theorems of the demands speak of
 pub mod Calls
 pub mod Demands

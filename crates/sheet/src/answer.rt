@@ -1,4 +1,7 @@
 // The answers in 01's numbers: the number and place first, and for refused bytes every other field 0. A host is told these (`probe`).
+ghost use Rattle.std.specs.Prelude.{Some};
+ghost use Rattle.sheet.specs.Printed.{entry_text, walked_text};
+
 use ring::Marked;
 use std::fmt;
 
@@ -21,12 +24,16 @@ pub struct Walked {
 // Each is printed by its fields in their order.
 
 impl fmt::Display for Entry {
+    ghost output = { λ a. Some (entry_text a) };
+
     fn fmt<W: fmt::Write>(&self, f: &mut fmt::Formatter<W>) -> fmt::Result {
         write!(f, "{} {} {}", self.marked, self.kind, self.before)
     }
 }
 
 impl fmt::Display for Walked {
+    ghost output = { λ a. Some (walked_text a) };
+
     fn fmt<W: fmt::Write>(&self, f: &mut fmt::Formatter<W>) -> fmt::Result {
         write!(f, "{} {} {}", self.number, self.place, self.sheets)
     }

@@ -1,6 +1,7 @@
 // Why a sheet or a book is refused, and 01's number and place for each reason.
-ghost use Rattle.std.specs.Prelude.{◌≡◌};
+ghost use Rattle.std.specs.Prelude.{◌≡◌, Some};
 ghost use Rattle.sheet.specs.Told.{number_told, place_told, of_ring};
+ghost use Rattle.sheet.specs.Printed.{refusal_text};
 
 use std::error::Error;
 use std::fmt;
@@ -65,6 +66,8 @@ impl From<ring::Refusal> for Refusal {
 
 // The number, and a text for people, of this crate's own cases.
 impl fmt::Display for Refusal {
+    ghost output = { λ e. Some (refusal_text e) };
+
     fn fmt<W: fmt::Write>(&self, f: &mut fmt::Formatter<W>) -> fmt::Result {
         write!(f, "{}: ", self.number())?;
         match self {

@@ -24,6 +24,7 @@ pub mod Lines
 pub mod Bases
 pub mod Bytes
 pub mod Scanning
+pub mod LineEnds
 pub mod Others
 pub mod Passing
 pub mod Counting

@@ -4,7 +4,7 @@ ghost use Rattle.fasta.specs.Answers.{part};
 ghost use Rattle.fasta.specs.Scan.{HeaderLine, Stands, end_in, header_from, rest_in};
 
 use super::answer::Part;
-use super::byte::{begins_with, header_follows, is_kept, line_ends};
+use super::byte::{begins_with, header_follows, is_kept};
 
 // A header line of a text: where its mark stands, and where the line ends.
 #[derive(Clone, Copy)]
@@ -55,12 +55,16 @@ pub fn find_header_line(text: &[u8]) -> Option<HeaderAt>
     Some(HeaderAt { mark, end })
 }
 
-// Where the first line ends; a last line may end with the text alone.
+// Where the first line ends; a last line may end with the text alone. LF alone is looked for, since each line end has one: where a CR
+// stands directly before the first LF, the end begins at that CR.
 fn line_end(line: &[u8]) -> usize
     ensures { Stands line.now (end_in line.now) result }
 {
     for (i, b) in line.iter().enumerate() {
-        if line_ends(*b, &line[i + 1..]) {
+        if *b == b'\n' {
+            if 0 < i && line[i - 1] == b'\r' {
+                return i - 1;
+            }
             return i;
         }
     }

@@ -10,7 +10,7 @@ use Rattle.std.specs.Prelude.{Option, Some, None}
 use Rattle.std.specs.Option.{option_or}
 use Rattle.fasta.specs.Lines.{upper}
 use Rattle.fasta.specs.Bases.{base_of, bases_in}
-use Rattle.fasta.specs.Scan.{keeps, turns, letters_in, rest_in, Stands, first_other, Counts}
+use Rattle.fasta.specs.Scan.{keeps, turns, letters_in, rest_in, Stands, first_other, Counts, BasesEnd}
 use Rattle.fasta.proofs.Bases.{base_is, base_letter, base_high, no_base, bases_more_some, bases_more_none}
 use Rattle.fasta.proofs.Bytes.{keep_high}
 use Rattle.fasta.proofs.Scanning.{cons}
@@ -87,3 +87,14 @@ module _ (text : List ℕ) (i n : ℕ) (other : Option ℕ) (s : Counting text i
         pub count_on : turns c u ≡ false → Counting text (i + 1) n other
         count_on e =
             record { passed = s.passed; passing = passing_on text i s.passed s.passing h q e; size = s.size; first = s.first; bases = passed_by }
+
+-- ---- where the last base ends
+
+module _ (text : List ℕ) (i : ℕ) where
+  -- it has just ended
+  pub bases_end_here : BasesEnd text i i
+  bases_end_here = record { within = omega arith; same = refl }
+
+  -- a byte that has none is passed over
+  pub bases_end_on : (e : ℕ) → BasesEnd text i e → i < length text → base_of (get_or text i 0) ≤ 0 → BasesEnd text (i + 1) e
+  bases_end_on e s h z = record { within = omega (arith, s.within); same = s.same ∙ sym (bases_more_none text i h z) }

@@ -63,3 +63,8 @@ pub record Counts (lines : List ℕ) (n : ℕ) (other : Option ℕ) (rest : ℕ)
   pub first : other ≡ first_other (letters_in lines)
   pub remains : Stands lines (rest_in lines) rest
   pub bases : other ≡ None → bases_in (take rest lines) ≡ letters_in lines
+
+-- the bases of the bytes before i are those of the bytes before e: the last of them ends there or before
+pub record BasesEnd (lines : List ℕ) (i e : ℕ) : Type 0 where
+  pub within : e ≤ i
+  pub same : bases_in (take e lines) ≡ bases_in (take i lines)

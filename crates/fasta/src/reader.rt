@@ -43,7 +43,7 @@ fn read_letters(text: &[u8], head: HeaderAt, room: &mut [u8]) -> Result<Taken, R
     if room.len() < n {
         return refused(Refusal::NoRoom, rest);
     }
-    put(&lines[..counted.rest], &bases, room);
+    put(&lines[..counted.end], &bases, room);
     Ok(Taken {
         n,
         header: head.part(),

@@ -46,7 +46,8 @@ pub fn find_header(text: &[u8]) -> Option<usize>
     None
 }
 
-// The first header line.
+// The first header line. Inlined, it hands its answer back in registers.
+#[inline(always)]
 pub fn find_header_line(text: &[u8]) -> Option<HeaderAt>
     ensures { MatchOption result (header_from text.now ≡ []) (λ head. HeaderLine text.now head.mark head.end) }
 {

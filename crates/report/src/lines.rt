@@ -32,9 +32,11 @@ fn put_head(room: &mut [u8], ring: &[u8]) -> Result<usize, Refusal>
 }
 
 // Each line has a function that is lent a printable ring by `put_lines` alone, which has judged it; a type for one would be made and opened once.
-// Lines 2 to 4 have a function each: the contract of one that is passed the call would have to say what the call writes.
+// Lines 2 to 4 have a function each: the contract of one that is passed the call would have to say what the call writes. Each is called when it is
+// built too, so that only one table stands on the stack at a time.
 
 // Line 2: the factor table.
+#[inline(never)]
 fn put_factors(room: &mut [u8], ring: &[u8]) -> Result<usize, Refusal>
     requires { Printable ring.now × (table_room ≤ length room.old) }
     ensures value { (result ≡ Ok (length (factor_line ring.now))) × (length (factor_line ring.now) ≤ table_room) }
@@ -46,6 +48,7 @@ fn put_factors(room: &mut [u8], ring: &[u8]) -> Result<usize, Refusal>
 }
 
 // Line 3: the suffix table.
+#[inline(never)]
 fn put_suffixes(room: &mut [u8], ring: &[u8]) -> Result<usize, Refusal>
     requires { Printable ring.now × (table_room ≤ length room.old) }
     ensures value { (result ≡ Ok (length (suffix_line ring.now))) × (length (suffix_line ring.now) ≤ table_room) }
@@ -57,6 +60,7 @@ fn put_suffixes(room: &mut [u8], ring: &[u8]) -> Result<usize, Refusal>
 }
 
 // Line 4: the start table.
+#[inline(never)]
 fn put_starts(room: &mut [u8], ring: &[u8]) -> Result<usize, Refusal>
     requires { Printable ring.now × (table_room ≤ length room.old) }
     ensures value { (result ≡ Ok (length (start_line ring.now))) × (length (start_line ring.now) ≤ table_room) }

@@ -9,6 +9,7 @@ use lib.ListN.{length, take, drop}
 use lib.Seq.{length-take-le}
 use Rattle.ring.specs.declared.answer.Marked.{Marked}
 use Rattle.sheet.specs.Found.{Sheet}
+use Rattle.sheet.specs.Sheet.{trailer_size}
 use Rattle.sheet.specs.Trailer.{found_of}
 use Rattle.sheet.specs.Book.{walk_back, walk_of}
 use Rattle.sheet.proofs.FromFound.{told_fits}
@@ -28,11 +29,14 @@ walking_first book = record { fuel = length book; behind = []; same = refl; enou
 
 module _ (rest : List ℕ) (m : Marked) (k bf : ℕ) (e : Sheet m k bf ≡ found_of rest) where
   -- what stands before a sheet that is found is shorter by a trailer or more
+  pub walking_fits : bf + trailer_size ≤ length rest
+  walking_fits = omega (arith, told_fits rest m k bf e)
+
   pub size_before : bf ≡ length (take bf rest)
-  size_before = sym (length-take-le bf rest (omega (arith, told_fits rest m k bf e)))
+  size_before = sym (length-take-le bf rest (omega (arith, walking_fits)))
 
   pub walking_less : length (take bf rest) < length rest
-  walking_less = omega (arith, told_fits rest m k bf e, size_before)
+  walking_less = omega (arith, walking_fits, size_before)
 
   pub walking_on : (book : List ℕ) (sheets : ℕ) → Walking book rest sheets → Walking book (take bf rest) (sheets + 1)
   walking_on book sheets w =

@@ -1,6 +1,7 @@
 -- The text that each answer prints: its numbers in decimal, in the order of its fields, and " | " before each part of the text.
 -- Assumes nothing.
 use Rattle.std.specs.Prelude.{List, ℕ, ◌++◌, codes, decimal}
+use Rattle.ring.specs.Printed.{spaced_two, spaced_three, numbered_text}
 use Rattle.fasta.specs.declared.answer.Part.{Part}
 use Rattle.fasta.specs.declared.answer.Refusal.{Refusal}
 use Rattle.fasta.specs.declared.answer.Refusal.TheVariants.{NoRecord, NoLetters, TooManyLetters, WrongLetter, NoRoom}
@@ -11,19 +12,19 @@ use Rattle.fasta.specs.Told.{number_of_refusal}
 
 -- a part of the text: its offset and its size
 abbrev pub part_text : Part → List ℕ
-part_text p = decimal p.offset ++ codes " " ++ decimal p.size
+part_text p = spaced_two p.offset p.size
 
 -- what a refusal says to people; that of a wrong letter names the place
-abbrev pub refusal_reason : Refusal → List ℕ
-refusal_reason NoRecord = codes "no header line before the first letter line"
-refusal_reason NoLetters = codes "no letters"
-refusal_reason TooManyLetters = codes "more letters than a ring has"
-refusal_reason (WrongLetter i) = codes "no base at " ++ decimal i
-refusal_reason NoRoom = codes "a room with too few bytes"
+abbrev pub reason_text : Refusal → List ℕ
+reason_text NoRecord = codes "no header line before the first letter line"
+reason_text NoLetters = codes "no letters"
+reason_text TooManyLetters = codes "more letters than a ring has"
+reason_text (WrongLetter i) = codes "no base at " ++ decimal i
+reason_text NoRoom = codes "a room with too few bytes"
 
--- a refusal: its number, a colon, and what it says
+-- what a refusal prints: its number, and why
 abbrev pub refusal_text : Refusal → List ℕ
-refusal_text r = decimal (number_of_refusal r) ++ codes ": " ++ refusal_reason r
+refusal_text r = numbered_text (number_of_refusal r) (reason_text r)
 
 -- a record that is refused: its refusal alone, not the text that remains
 abbrev pub refused_text : Refused → List ℕ
@@ -31,11 +32,8 @@ refused_text e = refusal_text e.refusal
 
 -- a record read: its number, the place and the count of letters, then both parts
 abbrev pub record_text : Record → List ℕ
-record_text r =
-    decimal r.number ++ codes " " ++ decimal r.place ++ codes " " ++ decimal r.n ++ codes " | " ++ part_text r.header
-    ++ codes " | " ++ part_text r.rest
+record_text r = spaced_three r.number r.place r.n ++ codes " | " ++ part_text r.header ++ codes " | " ++ part_text r.rest
 
 -- a record found: its number and the place, then both parts
 abbrev pub found_text : Found → List ℕ
-found_text f =
-    decimal f.number ++ codes " " ++ decimal f.place ++ codes " | " ++ part_text f.header ++ codes " | " ++ part_text f.rest
+found_text f = spaced_two f.number f.place ++ codes " | " ++ part_text f.header ++ codes " | " ++ part_text f.rest

@@ -32,8 +32,8 @@ fn put_head(room: &mut [u8], ring: &[u8]) -> Result<usize, Refusal>
 }
 
 // Each line has a function that is lent a printable ring by `put_lines` alone, which has judged it; a type for one would be made and opened once.
-// Lines 2 to 4 have a function each: the contract of one that is passed the call would have to say what the call writes. Each is called when it is
-// built too, so that only one table stands on the stack at a time.
+// Lines 2 to 4 have a function each: the contract of one that is passed the call would have to say what the call writes. Each stays a call in
+// the built code, so that only one table stands on the stack at a time.
 
 // Line 2: the factor table.
 #[inline(never)]

@@ -60,9 +60,13 @@ reason_text NoRoom = codes "a table or a room with too few entries"
 reason_text UnknownKind = codes "a kind that is none"
 reason_text NoKey = codes "no ring has this key"
 
+-- a number in decimal, and a reason: the form of every refusal, of rings, of sheets and of FASTA text
+abbrev pub numbered_text : ℕ → List ℕ → List ℕ
+numbered_text n why = decimal n ++ codes ": " ++ why
+
 -- what a refusal prints: its number, and why
 abbrev pub refusal_text : Refusal → List ℕ
-refusal_text e = decimal (number_of (verdict_of e)) ++ codes ": " ++ reason_text e
+refusal_text e = numbered_text (number_of (verdict_of e)) (reason_text e)
 
 -- what two rings that are not compared print: which of them is refused, and its refusal
 abbrev pub not_compared_text : NotCompared → List ℕ

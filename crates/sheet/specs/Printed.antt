@@ -1,7 +1,7 @@
 -- What an answer and a refusal print: the bytes that `{}` writes of each.
 -- Assumes nothing.
 use Rattle.std.specs.Prelude.{ℕ, List, ◌++◌, decimal, codes}
-use Rattle.ring.specs.Printed.{marked_text, spaced_three}
+use Rattle.ring.specs.Printed.{marked_text, numbered_text, spaced_three}
 use Rattle.sheet.specs.declared.answer.Entry.{Entry}
 use Rattle.sheet.specs.declared.answer.Walked.{Walked}
 use Rattle.sheet.specs.declared.refusals.Refusal.{Refusal}
@@ -27,4 +27,4 @@ reason_text NotMade = codes "no deposit has this sheet"
 
 -- what a refusal prints: its number, and why
 abbrev pub refusal_text : Refusal → List ℕ
-refusal_text e = decimal (number_told e) ++ codes ": " ++ reason_text e
+refusal_text e = numbered_text (number_told e) (reason_text e)
